@@ -1,0 +1,38 @@
+-- What the code's types say, in the words of the definitions.
+use Rattle.std.specs.Prelude.{◌≡◌, ℕ, ◌≤◌, List, [], Option, None, Some, Result, Ok, Err, MatchResult}
+use Rattle.metering_model.specs.Events as events
+use Rattle.script_model.specs.Lines.{words_of}
+use Rattle.script_model.specs.Grammar as grammar
+use Rattle.journal_model.specs.Faults as faults
+use Rattle.event_script.specs.declared.Event.{Event}
+use Rattle.event_script.specs.declared.Event.TheVariants.{Pulse}
+use Rattle.event_script.specs.declared.Line.{Line}
+use Rattle.event_script.specs.declared.Line.TheVariants.{Metering}
+use Rattle.event_script.specs.declared.Grammar.{Grammar}
+use Rattle.event_script.specs.declared.LineFault.{LineFault}
+use Rattle.event_script.specs.declared.LineFault.TheVariants as refused
+
+abbrev pub event_view : Event → events.Event
+event_view (Pulse n) = events.Pulse n
+
+abbrev pub line_view : Line → grammar.Line
+line_view (Metering event) = grammar.Metering (event_view event)
+
+abbrev pub fault_view : LineFault → faults.Fault
+fault_view (refused.Grammar at) = faults.Grammar at
+fault_view (refused.PulsesFull sum) = faults.PulsesFull sum
+fault_view refused.TooLong = faults.TooLong
+fault_view refused.TooMany = faults.TooMany
+
+-- what was read is what the definition says, and so is the place of the first wrong word
+abbrev pub Reads : Result Line Grammar → Result grammar.Line ℕ → Type 0
+Reads result said = MatchResult result (λ line. said ≡ Ok (line_view line)) (λ e. said ≡ Err e.at)
+
+-- a pulse line has 1 to 10^15 pulses
+abbrev pub IsInRange : Line → Type 0
+IsInRange (Metering (Pulse n)) = (1 ≤ n) × (n ≤ 1000000000000000)
+
+-- the words that are left: none, or those of a text
+abbrev pub rest_words : Option (List ℕ) → List (List ℕ)
+rest_words None = []
+rest_words (Some text) = words_of text

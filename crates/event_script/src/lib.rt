@@ -1,0 +1,47 @@
+//! The lines of a script: what each says, or why it is refused.
+#![tactic(auto)]
+
+mod number;
+mod read;
+mod words;
+
+pub use read::read_line;
+use thiserror::Error;
+pub use words::split_line;
+
+/// A metering event.
+#[derive(Clone, Copy, Debug, PartialEq, Eq)]
+pub enum Event {
+    /// `n` pulses of the flow sensor, 1 to 10^15.
+    Pulse { n: u64 },
+}
+
+/// What a line of a script says.
+#[derive(Clone, Copy, Debug, PartialEq, Eq)]
+pub enum Line {
+    Metering(Event),
+}
+
+/// A line outside the grammar, with the place of its first wrong, missing or extra word, counted from 0.
+#[derive(Clone, Copy, Debug, PartialEq, Eq, Error)]
+#[error("word {at}")]
+pub struct Grammar {
+    pub at: u8,
+}
+
+/// Why a line of a script is refused.
+#[derive(Clone, Copy, Debug, PartialEq, Eq, Error)]
+pub enum LineFault {
+    /// The line is outside the grammar, with the place of its first wrong, missing or extra word, counted from 0.
+    #[error("word {at}")]
+    Grammar { at: u8 },
+    /// The register would have `sum` pulses, more than 10^15.
+    #[error("pulses {sum}")]
+    PulsesFull { sum: u64 },
+    /// The line has more than 120 bytes.
+    #[error("too long")]
+    TooLong,
+    /// The line stands behind a million lines.
+    #[error("too many")]
+    TooMany,
+}

@@ -1,0 +1,31 @@
+-- Why a line of a script is refused.
+use Rattle.std.specs.Prelude.{ℕ, ◌+◌, cond, nat_lt, nat_le, List, length, Option, None, Some, Result, Ok, Err}
+use Rattle.metering_model.specs.Events.{Event, Pulse}
+use Rattle.metering_model.specs.Records.{MeterRecord}
+use Rattle.script_model.specs.Grammar.{Line, Metering, line_of, max_pulses}
+
+pub data Fault : Type 0 where
+  -- the place of the first wrong, missing or extra word
+  Grammar : (at : ℕ) → Fault
+  -- the pulses that the register would then have
+  PulsesFull : (sum : ℕ) → Fault
+  TooLong : Fault
+  TooMany : Fault
+
+abbrev pub max_lines : ℕ
+max_lines = 1000000
+
+abbrev pub max_line_len : ℕ
+max_line_len = 120
+
+-- an event that the record in force does not take
+abbrev pub event_fault : MeterRecord → Event → Option Fault
+event_fault r (Pulse n) = cond (nat_lt max_pulses (r.register.pulses + n)) (Some (PulsesFull (r.register.pulses + n))) None
+
+abbrev pub said_fault : MeterRecord → Result Line ℕ → Option Fault
+said_fault r (Ok (Metering event)) = event_fault r event
+said_fault r (Err place) = Some (Grammar place)
+
+-- why the line after n lines is refused, where r is the record in force
+abbrev pub fault_of : MeterRecord → ℕ → List ℕ → Option Fault
+fault_of r n line = cond (nat_le max_lines n) (Some TooMany) (cond (nat_lt max_line_len (length line)) (Some TooLong) (said_fault r (line_of line)))

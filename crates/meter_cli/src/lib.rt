@@ -1,0 +1,12 @@
+//! The top call of the heat meter: what the program does.
+#![tactic(auto)]
+
+mod job;
+mod status;
+#[cfg(test)]
+mod tests;
+mod top_call;
+
+pub use job::{Job, Usage, command};
+pub use status::{Status, status_code, status_line};
+pub use top_call::meter;

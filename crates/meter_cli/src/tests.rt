@@ -1,0 +1,171 @@
+//! Scripts and words with the answers that they must have.
+ghost use Rattle.std.specs.Prelude.{◌≡◌, ◌≤◌, IfOk};
+ghost use Rattle.trace_model.specs.Trace.{IsFresh};
+ghost use Rattle.meter_board.specs.Sim.{sim_trace};
+
+use crate::*;
+use event_script::LineFault;
+use meter_board::{CallKind, SimBoard, SliceSource};
+use std::process::Abort;
+use std::test::Fail;
+
+const DRY: [&str; 1] = ["dry"];
+
+fn board(rt: &impl AllocGlobal) -> Result<SimBoard, Fail>
+    ensures { IfOk result (λ b. IsFresh (sim_trace b)) }
+{
+    Ok(SimBoard::new(rt.alloc(), &[0u8; 16384], 100, 10000)?)
+}
+
+// What `dry` answers to a script that comes in pieces, where it must put this output.
+fn dry_answers(
+    rt: &(impl Abort + AllocGlobal),
+    script: &[u8],
+    piece: usize,
+    output: &[u8],
+) -> Result<Status, Fail>
+    requires { 1 ≤ piece }
+{
+    let mut board = board(rt)?;
+    let mut source = SliceSource::new(script, piece);
+    let status = meter(rt.alloc(), &DRY, &mut source, &mut board);
+    assert!(rt; board.output().eq(output.iter().copied()));
+    Ok(status)
+}
+
+#[test]
+fn lines_have_their_answers(rt: HostRuntime) -> Result<(), Fail> {
+    assert_eq!(&rt; dry_answers(&rt, b"", 1, b"")?, Status::Done);
+    for piece in [1, 2, 7, 4096] {
+        assert_eq!(&rt;
+            dry_answers(&rt, b"pulse 3\n", piece, b"ok 1 30 0 0\n")?,
+            Status::Done
+        );
+        assert_eq!(&rt;
+            dry_answers(&rt, b"pulse 3", piece, b"ok 1 30 0 0\n")?,
+            Status::Done
+        );
+        assert_eq!(&rt;
+            dry_answers(&rt, b"pulse 3\npulse 2\n", piece, b"ok 1 30 0 0\nok 2 50 0 0\n")?,
+            Status::Done
+        );
+    }
+    Ok(())
+}
+
+#[test]
+fn lines_are_refused(rt: HostRuntime) -> Result<(), Fail> {
+    assert_eq!(&rt;
+        dry_answers(
+            &rt,
+            b"pulse 1000000000000000\npulse 1\n",
+            64,
+            b"ok 1 10000000000000000 0 0\n"
+        )?,
+        Status::Line {
+            n: 2,
+            kind: LineFault::PulsesFull {
+                sum: 1_000_000_000_000_001
+            }
+        }
+    );
+    assert_eq!(&rt;
+        dry_answers(&rt, b"pulse 3\nsample 1 1\n", 64, b"ok 1 30 0 0\n")?,
+        Status::Line {
+            n: 2,
+            kind: LineFault::Grammar { at: 0 }
+        }
+    );
+    for (script, at) in [
+        (b"pulse 0".as_slice(), 1),
+        (b"\npulse 3".as_slice(), 0),
+        (b"pulse 3 4".as_slice(), 2),
+        (b"pulse 01".as_slice(), 1),
+        (b"pulse".as_slice(), 1),
+        (b"pulse\t3".as_slice(), 0),
+        (b"pulse 3\r\n".as_slice(), 1),
+        (b"pulse 3 ".as_slice(), 2),
+    ] {
+        assert_eq!(&rt;
+            dry_answers(&rt, script, 64, b"")?,
+            Status::Line {
+                n: 1,
+                kind: LineFault::Grammar { at }
+            }
+        );
+    }
+    assert_eq!(&rt;
+        dry_answers(&rt, &[b'x'; 121], 64, b"")?,
+        Status::Line {
+            n: 1,
+            kind: LineFault::TooLong
+        }
+    );
+    assert_eq!(&rt;
+        dry_answers(&rt, &[b'x'; 120], 64, b"")?,
+        Status::Line {
+            n: 1,
+            kind: LineFault::Grammar { at: 0 }
+        }
+    );
+    Ok(())
+}
+
+#[test]
+fn faults_are_told(rt: HostRuntime) -> Result<(), Fail> {
+    let mut quiet = board(&rt)?;
+    let mut source = SliceSource::new(b"pulse 3", 1);
+    assert!(&rt; source.fail_on(5));
+    assert_eq!(&rt;
+        meter(rt.alloc(), &DRY, &mut source, &mut quiet),
+        Status::Read
+    );
+    assert_eq!(&rt; quiet.output().count(), 0);
+    let mut failing = board(&rt)?;
+    let mut source = SliceSource::new(b"pulse 3", 64);
+    assert!(&rt; failing.fail_on(CallKind::Put, 1));
+    assert_eq!(&rt;
+        meter(rt.alloc(), &DRY, &mut source, &mut failing),
+        Status::Write
+    );
+    assert!(&rt; failing.output().eq(b"ok 1 3".iter().copied()));
+    Ok(())
+}
+
+#[test]
+fn words_are_tested(rt: HostRuntime) {
+    assert_eq!(&rt; command(&["dry"]), Ok(Job::Dry));
+    assert_eq!(&rt; command(&[]), Err(Usage { word: 0 }));
+    assert_eq!(&rt; command(&["run"]), Err(Usage { word: 0 }));
+    assert_eq!(&rt; command(&["dry", "now"]), Err(Usage { word: 1 }));
+}
+
+#[test]
+fn statuses_have_texts(rt: HostRuntime) {
+    for (status, code, text) in [
+        (Status::Done, 0, ""),
+        (Status::Usage { word: 1 }, 2, "usage: word 1"),
+        (
+            Status::Line {
+                n: 2,
+                kind: LineFault::Grammar { at: 0 },
+            },
+            4,
+            "line 2: word 0",
+        ),
+        (
+            Status::Line {
+                n: 1_000_001,
+                kind: LineFault::TooMany,
+            },
+            4,
+            "line 1000001: too many",
+        ),
+        (Status::Read, 6, "read fault"),
+        (Status::Write, 7, "write fault"),
+        (Status::OutOfMemory, 11, "out of memory"),
+    ] {
+        assert_eq!(&rt; status_code(&status), code);
+        assert_eq!(&rt; status_line(&status).as_str(), text);
+    }
+}

@@ -1,0 +1,46 @@
+-- What a line of a script says, or the place of its first wrong, missing or extra word, from 0.
+use Rattle.std.specs.Prelude.{ℕ, cond, nat_eq, List, [], ◌∷◌, codes, Option, None, Some, Result, Ok, Err}
+use Rattle.std.specs.Cmp.Lexicographic.{pointwise}
+use Rattle.metering_model.specs.Events.{Event, Pulse}
+use Rattle.script_model.specs.Lines.{words_of}
+use Rattle.script_model.specs.Numbers.{number_in}
+
+pub data Line : Type 0 where
+  Metering : (event : Event) → Line
+
+-- what is read first, and then the rest
+infixl 10 ◌>>=◌
+abbrev pub ◌>>=◌ : {A B : Type 0} → Result A ℕ → (A → Result B ℕ) → Result B ℕ
+(Ok x) >>= f = f x
+(Err place) >>= f = Err place
+
+-- what a word says, where it says something, with the words after it
+abbrev pub said_by : {A : Type 0} → Option A → ℕ → List (List ℕ) → Result (A × List (List ℕ)) ℕ
+said_by None place words = Err place
+said_by (Some x) place words = Ok (x, words)
+
+-- the word at this place, by its rule
+abbrev pub word_at : {A : Type 0} → ℕ → (List ℕ → Option A) → List (List ℕ) → Result (A × List (List ℕ)) ℕ
+word_at place rule [] = Err place
+word_at place rule (word ∷ words) = said_by (rule word) place words
+
+-- no word stands at this place
+abbrev pub end_at : {A : Type 0} → ℕ → A → List (List ℕ) → Result A ℕ
+end_at place x [] = Ok x
+end_at place x (word ∷ words) = Err place
+
+-- the most pulses of one line, and of a register
+abbrev pub max_pulses : ℕ
+max_pulses = 1000000000000000
+
+-- `pulse N`
+abbrev pub pulse_line : List (List ℕ) → Result Line ℕ
+pulse_line words = word_at 1 (number_in 1 max_pulses) words >>= λ n. end_at 2 (Metering (Pulse n.0)) n.1
+
+-- by the first word
+abbrev pub line_of_words : List (List ℕ) → Result Line ℕ
+line_of_words [] = Err 0
+line_of_words (name ∷ words) = cond (pointwise nat_eq name (codes "pulse")) (pulse_line words) (Err 0)
+
+abbrev pub line_of : List ℕ → Result Line ℕ
+line_of line = line_of_words (words_of line)
