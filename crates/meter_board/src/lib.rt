@@ -11,6 +11,8 @@ mod sim_board;
 mod slice_source;
 mod source;
 mod std_source;
+#[cfg(test)]
+mod tests;
 
 pub use board::Board;
 pub use file_board::FileBoard;

@@ -114,9 +114,8 @@ impl SimBoard {
         ensures { IsTrue result ↔ Any (λ call. (call.kind ≡ CallKind.Put) × (call.number ≡ sim_puts self.now)) (sim_failing self.now) }
     {
         let puts = self.puts;
-        self.failing
-            .iter()
-            .any(|call| matches!(call.kind, CallKind::Put) && u64::from(call.number) == puts)
+        self.failing.iter().any(|call| matches!(call.kind, CallKind::Put)
+            && u64::from(call.number) == puts)
     }
 
     fn has_room(&self, count: usize) -> bool

@@ -63,7 +63,9 @@ impl<'a> SliceSource<'a> {
         ensures { IsTrue result ↔ Contains (slice_failing self.now) (slice_reads self.now) }
     {
         let reads = self.reads;
-        self.failing.iter().any(|number| u64::from(*number) == reads)
+        self.failing
+            .iter()
+            .any(|number| u64::from(*number) == reads)
     }
 }
 

@@ -46,7 +46,12 @@ fn lines_have_their_answers(rt: HostRuntime) -> Result<(), Fail> {
             Status::Done
         );
         assert_eq!(&rt;
-            dry_answers(&rt, b"pulse 3\npulse 2\n", piece, b"ok 1 30 0 0\nok 2 50 0 0\n")?,
+            dry_answers(
+                &rt,
+                b"pulse 3\npulse 2\n",
+                piece,
+                b"ok 1 30 0 0\nok 2 50 0 0\n"
+            )?,
             Status::Done
         );
     }

@@ -24,12 +24,7 @@ pub fn ok_line(seq: u64, register: &Register, per_pulse: u16) -> ArrayString<LIN
 }
 
 // Adds `K VOL E B`.
-fn push_shown(
-    line: &mut ArrayString<LINE_ROOM>,
-    seq: u64,
-    register: &Register,
-    per_pulse: u16,
-)
+fn push_shown(line: &mut ArrayString<LINE_ROOM>, seq: u64, register: &Register, per_pulse: u16)
     requires { length line.old.bytes ≤ 10 }
     ensures bytes { line.new.bytes ≡ line.old.bytes ++ shown (record { litres_per_pulse = per_pulse }) (record_view seq register.now) }
     ensures short { length line.new.bytes ≤ length line.old.bytes + 143 }
