@@ -5,6 +5,7 @@ mod number;
 mod read;
 mod words;
 
+pub use number::number_word;
 pub use read::read_line;
 use thiserror::Error;
 pub use words::split_line;

@@ -1,25 +1,38 @@
 //! Number words.
-ghost use Rattle.std.specs.Prelude.{◌≡◌, ◌≤◌, ◌^◌, IfSome};
+ghost use Rattle.std.specs.Prelude.{◌≡◌, ◌+◌, ◌*◌, ◌<◌, ◌≤◌, IfSome, MatchOption};
 ghost use Rattle.script_model.specs.Numbers.{number_in};
 
-/// The number that a word says, where it is one from `low` to `high`.
-pub fn number(word: &[u8], low: u64, high: u64) -> Option<u64>
-    requires { high ≤ 2 ^ 60 }
+/// The number that a word says, where it is one from `low` to `high`: decimal digits alone, with no leading
+/// zero but `0` itself.
+pub fn number_word(word: &[u8], low: u64, high: u64) -> Option<u64>
     ensures value { result ≡ number_in low high word.now }
     ensures range { IfSome result (λ n. (low ≤ n) × (n ≤ high)) }
 {
     if word.is_empty() || (word.len() > 1 && word[0] == b'0') {
         return None;
     }
-    let mut value = 0;
+    let mut value: u64 = 0;
     for c in word {
         if !c.is_ascii_digit() {
             return None;
         }
-        value = 10 * value + u64::from(*c - b'0');
-        if value > high {
+        let Some(next) = with_digit(value, *c - b'0', high) else {
             return None;
-        }
+        };
+        value = next;
     }
     if value < low { None } else { Some(value) }
+}
+
+// The number with one more digit, where it is at most `high`.
+fn with_digit(value: u64, digit: u8, high: u64) -> Option<u64>
+    ensures { MatchOption result (high < 10 * value + digit) (λ next. (next ≡ 10 * value + digit) × (next ≤ high)) }
+{
+    match value.checked_mul(10) {
+        None => None,
+        Some(tens) => match tens.checked_add(u64::from(digit)) {
+            Some(next) if next <= high => Some(next),
+            _ => None,
+        },
+    }
 }

@@ -4,7 +4,7 @@ ghost use Rattle.std.specs.Option.{option_map};
 ghost use Rattle.script_model.specs.Grammar.{line_of, pulse_line};
 ghost use Rattle.event_script.specs.Views.{IsInRange, Reads, rest_words};
 
-use crate::number::number;
+use crate::number::number_word;
 use crate::words::split_word;
 use crate::{Event, Grammar, Line};
 
@@ -38,11 +38,23 @@ fn read_pulse(words: Option<&[u8]>) -> Result<Line, Grammar>
         return Err(Grammar { at: 1 });
     };
     let (word, words) = split_word(rest);
-    let Some(n) = number(word, 1, MAX_PULSES) else {
+    let Some(n) = number_word(word, 1, MAX_PULSES) else {
         return Err(Grammar { at: 1 });
     };
     match words {
         Some(_) => Err(Grammar { at: 2 }),
         None => Ok(Line::Metering(Event::Pulse { n })),
+    }
+}
+
+#[cfg(test)]
+mod tests {
+    use super::*;
+
+    #[test]
+    fn lines_are_read(rt: HostRuntime) {
+        assert_eq!(rt; read_line(b"pulse 7"), Ok(Line::Metering(Event::Pulse { n: 7 })));
+        assert_eq!(rt; read_line(b"pulse 07"), Err(Grammar { at: 1 }));
+        assert_eq!(rt; read_line(b"pulses 7"), Err(Grammar { at: 0 }));
     }
 }

@@ -1,20 +1,45 @@
 -- The words of the command line.
-use Rattle.std.specs.Prelude.{◌≡◌, ℕ, List, [], ◌∷◌, cond, nat_eq, codes, map, Result, Ok, Err, MatchResult}
+use Rattle.std.specs.Prelude.{◌≡◌, ℕ, Bool, List, [], ◌∷◌, cond, nat_eq, codes, map, Option, Some, None, Result, Ok, Err, MatchResult}
 use Rattle.std.specs.Cmp.Lexicographic.{pointwise}
 use Rattle.std.specs.Borrow.{Bor}
-use Rattle.script_model.specs.Grammar.{end_at}
+use Rattle.script_model.specs.Numbers.{number_in}
+use Rattle.script_model.specs.Grammar.{◌>>=◌, word_at, end_at}
+use Rattle.pt_curve.specs.declared.sensor.Sensor.{Sensor}
+use Rattle.pt_curve.specs.declared.sensor.Sensor.TheVariants.{Pt100, Pt500, Pt1000}
 use Rattle.meter_cli.specs.declared.job.Job.{Job}
-use Rattle.meter_cli.specs.declared.job.Job.TheVariants.{Dry}
+use Rattle.meter_cli.specs.declared.job.Job.TheVariants.{Dry, Temp}
 use Rattle.meter_cli.specs.declared.job.Usage.{Usage}
+
+-- the word is this text
+abbrev pub is_text : List ℕ → List ℕ → Bool
+is_text text word = pointwise nat_eq word text
+
+-- the sensor with so many ohms at 0 °C
+abbrev pub sensor_of : List ℕ → Option Sensor
+sensor_of word = cond (is_text (codes "100") word) (Some Pt100) (cond (is_text (codes "500") word) (Some Pt500) (cond (is_text (codes "1000") word) (Some Pt1000) None))
+
+-- the most microohms of a sample
+abbrev pub max_sample : ℕ
+max_sample = 4294967295
+
+-- `temp R0 R`
+abbrev pub temp_words : List (List ℕ) → Result Job ℕ
+temp_words words = word_at 1 sensor_of words >>= λ sensor. word_at 2 (number_in 0 max_sample) sensor.1 >>= λ r. end_at 3 (Temp sensor.0 r.0) r.1
 
 -- the command that words say, or the place of the first wrong, missing or extra word, from 0
 abbrev pub command_of : List (List ℕ) → Result Job ℕ
 command_of [] = Err 0
-command_of (name ∷ words) = cond (pointwise nat_eq name (codes "dry")) (end_at 1 Dry words) (Err 0)
+command_of (name ∷ words) = cond (is_text (codes "dry") name) (end_at 1 Dry words) (cond (is_text (codes "temp") name) (temp_words words) (Err 0))
 
 -- the texts of the words
 abbrev pub texts : List (Bor (List ℕ)) → List (List ℕ)
 texts words = map (λ w. w.now) words
 
-abbrev pub Commands : List (Bor (List ℕ)) → Result Job Usage → Type 0
-Commands words result = MatchResult result (λ job. command_of (texts words) ≡ Ok job) (λ e. command_of (texts words) ≡ Err e.word)
+-- what was read is what the definition says, and so is the place of the first wrong word
+abbrev pub Says : Result Job Usage → Result Job ℕ → Type 0
+Says result said = MatchResult result (λ job. said ≡ Ok job) (λ e. said ≡ Err e.word)
+
+-- the words begin with this one, where there is one
+abbrev pub BeginsWith : List (List ℕ) → Option (Bor (List ℕ) × Bor (List (Bor (List ℕ)))) → Type 0
+BeginsWith words None = words ≡ []
+BeginsWith words (Some split) = words ≡ split.0.now ∷ texts split.1.now

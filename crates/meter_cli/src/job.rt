@@ -1,6 +1,10 @@
 //! The words of the command line.
-ghost use Rattle.meter_cli.specs.Command.{Commands};
+ghost use Rattle.std.specs.Prelude.{◌≡◌, ℕ, IfSome, ◌≤◌};
+ghost use Rattle.script_model.specs.Grammar.{end_at};
+ghost use Rattle.meter_cli.specs.Command.{BeginsWith, Says, command_of, sensor_of, temp_words, texts};
 
+use event_script::number_word;
+use pt_curve::Sensor;
 use thiserror::Error;
 
 /// A command.
@@ -8,6 +12,8 @@ use thiserror::Error;
 pub enum Job {
     /// `dry`: meter the events of a script without a memory.
     Dry,
+    /// `temp R0 R`: the whole temperature that a sample of `r` microohms of this sensor stands for.
+    Temp { sensor: Sensor, r: u32 },
 }
 
 /// The words are no command, with the place of the first wrong, missing or extra word, counted from 0.
@@ -17,18 +23,82 @@ pub struct Usage {
     pub word: usize,
 }
 
+/// The most microohms of a sample.
+const MAX_SAMPLE: u64 = 4_294_967_295;
+
 /// The command that the words after the program's name say.
 ///
 /// # Errors
 /// [`Usage`] exactly where the words are no command.
 pub fn command(words: &[&str]) -> Result<Job, Usage>
-    ensures { Commands words.now result }
+    ensures { Says result (command_of (texts words.now)) }
 {
-    if words.is_empty() || words[0].as_bytes() != b"dry".as_slice() {
+    let Some((name, rest)) = first_of(words) else {
         return Err(Usage { word: 0 });
+    };
+    if name.as_bytes() == b"dry".as_slice() {
+        dry(rest)
+    } else if name.as_bytes() == b"temp".as_slice() {
+        temp(rest)
+    } else {
+        Err(Usage { word: 0 })
     }
-    if words.len() > 1 {
+}
+
+// The words after `dry`.
+fn dry(words: &[&str]) -> Result<Job, Usage>
+    ensures { Says result (end_at 1 Job.Dry (texts words.now)) }
+{
+    match first_of(words) {
+        Some(_) => Err(Usage { word: 1 }),
+        None => Ok(Job::Dry),
+    }
+}
+
+// The words after `temp`.
+fn temp(words: &[&str]) -> Result<Job, Usage>
+    ensures { Says result (temp_words (texts words.now)) }
+{
+    let Some((word, words)) = first_of(words) else {
         return Err(Usage { word: 1 });
+    };
+    let Some(sensor) = sensor(word.as_bytes()) else {
+        return Err(Usage { word: 1 });
+    };
+    let Some((word, words)) = first_of(words) else {
+        return Err(Usage { word: 2 });
+    };
+    let Some(r) = number_word(word.as_bytes(), 0, MAX_SAMPLE) else {
+        return Err(Usage { word: 2 });
+    };
+    match first_of(words) {
+        Some(_) => Err(Usage { word: 3 }),
+        None => Ok(Job::Temp {
+            sensor,
+            r: r as u32,
+        }),
     }
-    Ok(Job::Dry)
+}
+
+// The first word, and those after it.
+fn first_of<'a, 'b>(words: &'b [&'a str]) -> Option<(&'a str, &'b [&'a str])>
+    ensures { BeginsWith (texts words.now) result }
+{
+    let (first, others) = words.split_first()?;
+    Some((*first, others))
+}
+
+// The sensor with so many ohms at 0 °C.
+fn sensor(word: &[u8]) -> Option<Sensor>
+    ensures { result ≡ sensor_of word.now }
+{
+    if word == b"100".as_slice() {
+        Some(Sensor::Pt100)
+    } else if word == b"500".as_slice() {
+        Some(Sensor::Pt500)
+    } else if word == b"1000".as_slice() {
+        Some(Sensor::Pt1000)
+    } else {
+        None
+    }
 }

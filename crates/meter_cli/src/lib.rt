@@ -2,6 +2,7 @@
 #![tactic(auto)]
 
 mod job;
+mod small;
 mod status;
 #[cfg(test)]
 mod tests;

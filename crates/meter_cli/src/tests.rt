@@ -6,6 +6,7 @@ ghost use Rattle.meter_board.specs.Sim.{sim_trace};
 use crate::*;
 use event_script::LineFault;
 use meter_board::{CallKind, SimBoard, SliceSource};
+use pt_curve::Sensor;
 use std::process::Abort;
 use std::test::Fail;
 
@@ -138,11 +139,59 @@ fn faults_are_told(rt: HostRuntime) -> Result<(), Fail> {
 }
 
 #[test]
+fn samples_have_their_temperatures(rt: HostRuntime) -> Result<(), Fail> {
+    for (r0, r, output) in [
+        ("100", "138505500", b"100000000\n".as_slice()),
+        ("100", "100000000", b"out\n".as_slice()),
+        ("100", "100000001", b"2\n".as_slice()),
+        ("100", "168478299", b"179999997\n".as_slice()),
+        ("100", "168478300", b"out\n".as_slice()),
+        ("500", "596985625", b"50000000\n".as_slice()),
+        ("500", "596985624", b"49999999\n".as_slice()),
+        ("1000", "4294967295", b"out\n".as_slice()),
+    ] {
+        let mut board = board(&rt)?;
+        let mut source = SliceSource::new(b"", 1);
+        assert_eq!(&rt;
+            meter(rt.alloc(), &["temp", r0, r], &mut source, &mut board),
+            Status::Done
+        );
+        assert!(&rt; board.output().eq(output.iter().copied()));
+    }
+    let mut failing = board(&rt)?;
+    let mut source = SliceSource::new(b"", 1);
+    assert!(&rt; failing.fail_on(CallKind::Put, 1));
+    assert_eq!(&rt;
+        meter(rt.alloc(), &["temp", "100", "0"], &mut source, &mut failing),
+        Status::Write
+    );
+    Ok(())
+}
+
+#[test]
 fn words_are_tested(rt: HostRuntime) {
     assert_eq!(&rt; command(&["dry"]), Ok(Job::Dry));
-    assert_eq!(&rt; command(&[]), Err(Usage { word: 0 }));
-    assert_eq!(&rt; command(&["run"]), Err(Usage { word: 0 }));
-    assert_eq!(&rt; command(&["dry", "now"]), Err(Usage { word: 1 }));
+    assert_eq!(&rt;
+        command(&["temp", "500", "0"]),
+        Ok(Job::Temp {
+            sensor: Sensor::Pt500,
+            r: 0
+        })
+    );
+    for (words, word) in [
+        ([].as_slice(), 0),
+        (["run"].as_slice(), 0),
+        (["--help"].as_slice(), 0),
+        (["dry", "now"].as_slice(), 1),
+        (["temp", "200", "1"].as_slice(), 1),
+        (["temp", "0100", "1"].as_slice(), 1),
+        (["temp", "100"].as_slice(), 2),
+        (["temp", "100", "4294967296"].as_slice(), 2),
+        (["temp", "100", "-1"].as_slice(), 2),
+        (["temp", "100", "1", "1"].as_slice(), 3),
+    ] {
+        assert_eq!(&rt; command(words), Err(Usage { word }));
+    }
 }
 
 #[test]

@@ -9,8 +9,11 @@ ghost use Rattle.meter_board.specs.Causes.{Rose};
 ghost use Rattle.run_engine.specs.Dry.{dry_settings};
 ghost use Rattle.meter_cli.specs.Command.{command_of, texts};
 ghost use Rattle.meter_cli.specs.Status.{DryLeaves, status_of};
+ghost use Rattle.meter_cli.specs.Temp.{TempLeaves};
+ghost use Rattle.pt_curve.specs.declared.sensor.Sensor.{Sensor};
 
 use crate::job::{Job, command};
+use crate::small::temp;
 use crate::status::Status;
 use meter_board::{Board, Source};
 use run_engine::{Ended, dry};
@@ -33,7 +36,12 @@ pub fn meter<S: Source, B: Board>(
     // What `dry` leaves, and when it must answer Done.
     ensures dry { command_of (texts words.now) ≡ Ok Job.Dry → S.tells → B.tells → DryLeaves (S.left source.old) (B.trace board.new) result }
     ensures complete { command_of (texts words.now) ≡ Ok Job.Dry → S.tells → B.tells → NoneRefused dry_settings zero_record (lines_of (S.left source.old)) → ¬ Rose (S.faults source.old) (S.faults source.new) → ¬ Rose (B.output_faults board.old) (B.output_faults board.new) → (result ≡ Status.Done) ⊎ (result ≡ Status.OutOfMemory) }
-    ensures end { S.tells → B.tells → result ≡ Status.Done → S.left source.new ≡ [] }
+    ensures end { command_of (texts words.now) ≡ Ok Job.Dry → S.tells → B.tells → result ≡ Status.Done → S.left source.new ≡ [] }
+
+    // `temp` reads nothing, and is done where the output takes its line.
+    ensures temp { (sensor : Sensor) (r : ℕ) → command_of (texts words.now) ≡ Ok (Job.Temp sensor r) → B.tells → TempLeaves sensor r (B.trace board.old) (B.trace board.new) result }
+    ensures temp_complete { (sensor : Sensor) (r : ℕ) → command_of (texts words.now) ≡ Ok (Job.Temp sensor r) → (result ≡ Status.Done) ⊎ Rose (B.output_faults board.old) (B.output_faults board.new) }
+    ensures unread { (sensor : Sensor) (r : ℕ) → command_of (texts words.now) ≡ Ok (Job.Temp sensor r) → source.new ≡ source.old }
 
     // Nothing happens to the board but that bytes go out.
     ensures puts { B.tells → PutsAlone (B.trace board.new) }
@@ -45,6 +53,7 @@ pub fn meter<S: Source, B: Board>(
     match command(words) {
         Err(usage) => Status::Usage { word: usage.word },
         Ok(Job::Dry) => status_from(dry(alloc, source, board)),
+        Ok(Job::Temp { sensor, r }) => temp(board, sensor, r),
     }
 }
 

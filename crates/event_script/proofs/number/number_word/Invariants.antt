@@ -1,6 +1,6 @@
 use Rattle.std.proofs.Common.{◌≡◌, ◌≤◌, drop}
 use Rattle.script_model.specs.Numbers.{value_after, all_digits}
-use Rattle.event_script.proofs.number.number.Given as goal
+use Rattle.event_script.proofs.number.number_word.Given as goal
 
 -- what is read so far and what is left say the whole
 abbrev pub invariant-loop-c : goal.invariant-loop-c

@@ -1,0 +1,4 @@
+pub mod EndsLemmas
+pub mod ProductLemmas
+pub mod QuotientLemmas
+pub mod PowerLemmas

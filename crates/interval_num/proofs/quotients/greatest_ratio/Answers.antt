@@ -1,0 +1,18 @@
+use Rattle.std.proofs.Common.{◌∙◌, pos, neg_ℤ, ap, arith, to_z-of_z}
+use Rattle.std.proofs.lemmas.Int.{ints}
+use mir.Syntax.{w128}
+use mir.Val.{SFits}
+use lib.IntN.{◌-ℤ◌, +ℤ_idl}
+use Rattle.interval_num.proofs.QuotientLemmas.{quotient_floor-least_neg}
+use Rattle.interval_num.proofs.quotients.greatest_ratio.Goals as goal
+
+pub returns : goal.returns
+returns c =
+    let fa : SFits w128 c.args.a = c.ranges.a in
+    let fm : SFits w128 c.args.m = c.ranges.m in
+    let fk : SFits w128 c.args.k = c.ranges.k in
+    let fn : SFits w128 (pos 0 -ℤ c.args.a) = omega (arith, ints) in
+    let fr : SFits w128 c.least_ratio.result = omega (arith, ints, c.least_ratio.ensures.range.low, c.least_ratio.ensures.range.high) in
+    let ff : SFits w128 (pos 0 -ℤ c.least_ratio.result) = omega (arith, ints, c.least_ratio.ensures.range.low, c.least_ratio.ensures.range.high) in
+    let value = simp to_z-of_z at c.least_ratio.ensures.value in
+    simp to_z-of_z (+ℤ_idl (neg_ℤ c.least_ratio.result) ∙ ap neg_ℤ value ∙ quotient_floor-least_neg c.args.s c.args.a c.args.m c.args.k)

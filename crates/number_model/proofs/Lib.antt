@@ -1,0 +1,6 @@
+pub mod Ints
+pub mod Same
+pub mod Roundings
+pub mod Order
+pub mod Powers
+pub mod Enclosures

@@ -1,0 +1,3 @@
+pub mod Fraction
+pub mod Rounding
+pub mod Enclosure

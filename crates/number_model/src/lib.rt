@@ -1,0 +1,2 @@
+//! Fractions, rounding and enclosures, with the laws that they keep.
+#![tactic(auto)]

@@ -1,0 +1,6 @@
+pub mod Order
+pub mod Curve
+pub mod Rising
+pub mod Scaled
+pub mod Samples
+pub mod Cells

@@ -1,0 +1,3 @@
+pub mod NominalCurve
+pub mod Bisection
+pub mod CellEnds

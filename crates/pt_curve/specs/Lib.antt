@@ -1,0 +1,3 @@
+pub mod Nominal
+pub mod Curve
+pub mod Steps
