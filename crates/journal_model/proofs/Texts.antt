@@ -1,5 +1,5 @@
 -- The text of an output line has its LF at the end alone.
-use Rattle.std.proofs.Common.{◌≡◌, ℕ, ◌+◌, ◌<◌, ◌^◌, ◌*◌, ◌%◌, true, suc, ℤ, pos, negsuc, List, [], ◌∷◌, ◌++◌, take, refl, ap, arith, codes}
+use Rattle.std.proofs.Common.{◌≡◌, ℕ, ◌+◌, ◌<◌, ◌^◌, ◌%◌, true, suc, ℤ, pos, negsuc, [], ◌∷◌, ◌++◌, take, refl, arith, codes}
 use Rattle.std.specs.Prelude.{nat_abs}
 use Rattle.std.specs.Fmt.{decimal, signed_decimal}
 use Rattle.std.proofs.lemmas.Fmt.{decimal_by_steps_wide}

@@ -1,9 +1,9 @@
 -- One more mark, and the output of all.
-use Rattle.std.proofs.Common.{◌≡◌, ℕ, ◌+◌, ◌≤◌, List, [], ◌∷◌, ◌++◌, length, take, drop, refl, sym, ◌∙◌, ap, subst, arith, append_assoc}
+use Rattle.std.proofs.Common.{◌≡◌, ℕ, ◌≤◌, List, [], ◌∷◌, ◌++◌, length, take, drop, sym, ◌∙◌, ap, arith, append_assoc}
 use Rattle.std.proofs.lemmas.List.{nil_from_length, take-append-le, drop-append-le, take-append-drop, append-nil, length-drop}
 use Rattle.std.proofs.Math.Seq.{take-length}
 use Rattle.std.proofs.lemmas.List.Sums.{sum_by-cons}
-use Rattle.trace_model.specs.Trace.{Entry, Put, Trace, ◌▷◌}
+use Rattle.trace_model.specs.Trace.{Put, Trace, ◌▷◌}
 use Rattle.trace_model.specs.Output.{output_of}
 use Rattle.meter_board.specs.declared.mark.Mark.{Mark}
 use Rattle.meter_board.specs.declared.mark.Mark.TheVariants as marks

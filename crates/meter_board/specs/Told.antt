@@ -1,5 +1,5 @@
 -- The trace that a board in memory keeps as marks, and the bytes that belong to them end to end.
-use Rattle.std.specs.Prelude.{◌≡◌, ℕ, List, [], ◌∷◌, ◌++◌, take, drop, sum_by}
+use Rattle.std.specs.Prelude.{ℕ, List, [], ◌∷◌, take, drop, sum_by}
 use Rattle.trace_model.specs.Trace.{Entry, Put, Trace, ◌▷◌}
 use Rattle.meter_board.specs.declared.mark.Mark.{Mark}
 use Rattle.meter_board.specs.declared.mark.Mark.TheVariants as marks

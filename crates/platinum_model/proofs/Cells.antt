@@ -7,7 +7,7 @@ use Rattle.number_model.specs.Fraction.{Fraction, ◌≤ℚ◌, ◌+ℚ◌, ◌-
 use Rattle.number_model.proofs.Same.{same_refl, same_sym}
 use Rattle.number_model.specs.Enclosure.{nanodegrees, SpanHolds}
 use Rattle.platinum_model.specs.Element.{Element, resistance, scaled_resistance}
-use Rattle.platinum_model.specs.Sample.{half, IsInRange, IsInCell, AreCellEnds}
+use Rattle.platinum_model.specs.Sample.{half, IsInRange, IsInCell, AreCellEnds, IsCellSpan}
 use Rattle.number_model.proofs.Order.{≤ℚ_trans}
 use Rattle.platinum_model.proofs.Order.{ratio, le_same, half_more, half_less}
 use Rattle.platinum_model.proofs.Curve.{IsRising}
@@ -136,3 +136,10 @@ AreCellEnds-width e r lo hi steep range ends = near (cases_lt (lo + 2800) hi)
         (before_hi (lo + 1 + (hi - lo - 2)) (omega arith) (cases_lt _ _))
         rise steep.slope
         (mul-le-mul_left (e.r0_uohm * (10 ^ 9 * (e.a_e10 - 360 * e.b_e10))) (omega arith)))
+
+pub IsCellSpan-found : (e : Element) (r lo hi : ℕ) → IsSteep e → IsInRange e r → AreCellEnds e r lo hi → IsCellSpan e r lo hi
+IsCellSpan-found e r lo hi steep range ends = record {
+  ends = ends;
+  holds = λ t h. IsInCell-between e r lo hi t steep.rising ends h;
+  width = AreCellEnds-width e r lo hi steep range ends;
+}

@@ -1,8 +1,8 @@
 -- What a sample of r microohms says of the temperature.
-use Rattle.std.specs.Prelude.{ℕ, ◌≤◌, pos}
+use Rattle.std.specs.Prelude.{ℕ, ◌+◌, ◌≤◌, pos}
 use Rattle.std.proofs.Common.{lit<}
 use Rattle.number_model.specs.Fraction.{Fraction, ◌≤ℚ◌, ◌+ℚ◌, ◌-ℚ◌, whole}
-use Rattle.number_model.specs.Enclosure.{nanodegrees}
+use Rattle.number_model.specs.Enclosure.{nanodegrees, SpanHolds}
 use Rattle.platinum_model.specs.Element.{Element, resistance, microdegrees}
 
 abbrev pub half : Fraction
@@ -36,3 +36,9 @@ pub record AreCellEnds (e : Element) (r lo hi : ℕ) : Type 0 where
   pub hi_range : hi ≤ 180000000000
   pub hi_after : (whole r +ℚ half) ≤ℚ resistance e (nanodegrees hi)
   pub hi_least : (s : ℕ) → s ≤ 180000000000 → (whole r +ℚ half) ≤ℚ resistance e (nanodegrees s) → hi ≤ s
+
+-- lo and hi nanodegrees are the ends of the cell, the whole cell lies between them, and they are at most 2,800 apart
+pub record IsCellSpan (e : Element) (r lo hi : ℕ) : Type 0 where
+  pub ends : AreCellEnds e r lo hi
+  pub holds : (t : Fraction) → IsInCell e r t → SpanHolds lo hi t
+  pub width : hi ≤ lo + 2800

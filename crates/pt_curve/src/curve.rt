@@ -1,8 +1,8 @@
 ghost use Rattle.std.specs.Prelude.{◌≡◌, ℕ, ◌+◌, ◌*◌, ◌^◌, ◌≤◌, ◌↔◌, IsTrue, IsSome, IfSome, pos, ◌≤ℤ◌, ◌<ℤ◌};
-ghost use Rattle.number_model.specs.Fraction.{Fraction, IsRatio};
-ghost use Rattle.number_model.specs.Enclosure.{nanodegrees, SpanHolds};
+ghost use Rattle.number_model.specs.Fraction.{IsRatio};
+ghost use Rattle.number_model.specs.Enclosure.{nanodegrees};
 ghost use Rattle.platinum_model.specs.Element.{resistance, scaled_resistance};
-ghost use Rattle.platinum_model.specs.Sample.{IsInRange, IsWholeTemp, IsInCell, AreCellEnds};
+ghost use Rattle.platinum_model.specs.Sample.{IsInRange, IsWholeTemp, IsCellSpan};
 ghost use Rattle.pt_curve.specs.Nominal.{is_nominal};
 ghost use Rattle.pt_curve.specs.Steps.{IsLastStep};
 
@@ -74,9 +74,7 @@ impl Curve {
     /// outwards to whole nanodegrees Celsius. None as for `whole_temp`.
     pub fn cell(&self, r: u32) -> Option<Span>
         ensures in_range { IsSome result ↔ IsInRange (element self.now) r }
-        ensures ends { IfSome result (λ s. AreCellEnds (element self.now) r s.lo s.hi) }
-        ensures width { IfSome result (λ s. s.hi ≤ s.lo + 2800) }
-        ensures holds { IfSome result (λ s. (t : Fraction) → IsInCell (element self.now) r t → SpanHolds s.lo s.hi t) }
+        ensures span { IfSome result (λ s. IsCellSpan (element self.now) r s.lo s.hi) }
     {
         if !self.is_in_range(r) {
             return None;

@@ -3,7 +3,7 @@ use Rattle.std.proofs.lemmas.Int.{ints}
 use Rattle.platinum_model.specs.Sample.{IsInRange, AreCellEnds}
 use Rattle.platinum_model.proofs.Curve.{IsRising}
 use Rattle.platinum_model.proofs.Samples.{IsInRange-low, IsInRange-high}
-use Rattle.platinum_model.proofs.Cells.{IsSteep, IsInCell-between, AreCellEnds-width, AreCellEnds-ordered}
+use Rattle.platinum_model.proofs.Cells.{IsSteep, AreCellEnds-ordered, IsCellSpan-found}
 use Rattle.pt_curve.proofs.NominalCurve.{nominal-steep}
 use Rattle.pt_curve.proofs.CellEnds.{cell_ends}
 use Rattle.pt_curve.specs.Curve.{element}
@@ -40,19 +40,9 @@ invariant_of-result c =
     cell_ends (element c.args.self.now) c.args.r _ _ c.from.result rising (c.if-not-is_in_range.ensures.0 refl) c.ranges.r.fits c.from.ensures c.last_step-lo.ensures c.last_step-before_hi.ensures in
     record { ordered = AreCellEnds-ordered (element c.args.self.now) c.args.r _ _ rising ends; in_range = ends.hi_range }
 
-pub returns-clause-ends : goal.returns-clause-ends
-returns-clause-ends c =
-    cell_ends (element c.args.self.now) c.args.r _ _ c.from.result (nominal-steep c.args.self.now.r0_uohm c.args.self.now.nominal).rising
-    (c.if-not-is_in_range.ensures.0 refl) c.ranges.r.fits c.from.ensures c.last_step-lo.ensures c.last_step-before_hi.ensures
-
-pub returns-clause-width : goal.returns-clause-width
-returns-clause-width c =
+pub returns-clause-span : goal.returns-clause-span
+returns-clause-span c =
     let steep : IsSteep (element c.args.self.now) = nominal-steep c.args.self.now.r0_uohm c.args.self.now.nominal in
-    AreCellEnds-width (element c.args.self.now) c.args.r _ _ steep (c.if-not-is_in_range.ensures.0 refl)
-    (cell_ends (element c.args.self.now) c.args.r _ _ c.from.result steep.rising (c.if-not-is_in_range.ensures.0 refl) c.ranges.r.fits c.from.ensures c.last_step-lo.ensures c.last_step-before_hi.ensures)
-
-pub returns-clause-holds : goal.returns-clause-holds
-returns-clause-holds c = λ t h.
-    let rising : IsRising (element c.args.self.now) = (nominal-steep c.args.self.now.r0_uohm c.args.self.now.nominal).rising in
-    IsInCell-between (element c.args.self.now) c.args.r _ _ t rising
-    (cell_ends (element c.args.self.now) c.args.r _ _ c.from.result rising (c.if-not-is_in_range.ensures.0 refl) c.ranges.r.fits c.from.ensures c.last_step-lo.ensures c.last_step-before_hi.ensures) h
+    let range : IsInRange (element c.args.self.now) c.args.r = c.if-not-is_in_range.ensures.0 refl in
+    IsCellSpan-found (element c.args.self.now) c.args.r _ _ steep range
+    (cell_ends (element c.args.self.now) c.args.r _ _ c.from.result steep.rising range c.ranges.r.fits c.from.ensures c.last_step-lo.ensures c.last_step-before_hi.ensures)
