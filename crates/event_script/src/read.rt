@@ -53,7 +53,10 @@ mod tests {
 
     #[test]
     fn lines_are_read(rt: HostRuntime) {
-        assert_eq!(rt; read_line(b"pulse 7"), Ok(Line::Metering(Event::Pulse { n: 7 })));
+        assert_eq!(rt;
+            read_line(b"pulse 7"),
+            Ok(Line::Metering(Event::Pulse { n: 7 }))
+        );
         assert_eq!(rt; read_line(b"pulse 07"), Err(Grammar { at: 1 }));
         assert_eq!(rt; read_line(b"pulses 7"), Err(Grammar { at: 0 }));
     }

@@ -1,5 +1,5 @@
 -- The status of a command: its number, its text, and what `dry` leaves at it.
-use Rattle.std.specs.Prelude.{◌≡◌, ◌⊎◌, ℕ, List, [], ◌++◌, codes}
+use Rattle.std.specs.Prelude.{◌≡◌, ℕ, List, [], ◌++◌, codes}
 use Rattle.std.specs.Fmt.{decimal}
 use Rattle.trace_model.specs.Trace.{Trace}
 use Rattle.event_script.specs.declared.LineFault.{LineFault}

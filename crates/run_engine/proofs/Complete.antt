@@ -3,8 +3,8 @@ use Rattle.std.proofs.Common.{◌≡◌, ◌⊎◌, inl, inr, ℕ, List, refl, s
 use Rattle.std.specs.Prelude.{Some, None}
 use Rattle.metering_model.specs.Records.{Settings, zero_record}
 use Rattle.script_model.specs.Lines.{lines_of}
-use Rattle.trace_model.specs.Trace.{Trace, IsFresh, Start}
-use Rattle.trace_model.specs.Output.{PutsAlone, output_lines}
+use Rattle.trace_model.specs.Trace.{Trace}
+use Rattle.trace_model.specs.Output.{output_lines}
 use Rattle.journal_model.specs.Pairing.{NoneRefused}
 use Rattle.run_engine.specs.Dry.{Ran}
 use Rattle.run_engine.specs.declared.Ended.{Ended}

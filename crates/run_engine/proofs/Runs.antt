@@ -1,20 +1,20 @@
 -- The run of `dry` so far.
-use Rattle.std.proofs.Common.{◌≡◌, ℕ, ◌+◌, ◌≤◌, ◌⊎◌, inl, inr, suc, zero, ℤ, pos, ◌+ℤ◌, List, [], ◌∷◌, ◌++◌, length, drop, take, None, Some, Ok, true, false, refl, ap, sym, ◌∙◌, subst, arith, length-append, length-drop, zero-add}
+use Rattle.std.proofs.Common.{◌≡◌, ℕ, ◌+◌, ◌≤◌, ◌⊎◌, inl, inr, suc, zero, ℤ, pos, ◌+ℤ◌, List, [], ◌∷◌, ◌++◌, length, drop, take, None, Some, true, false, refl, ap, sym, ◌∙◌, subst, arith, length-append, length-drop, zero-add}
 use Rattle.std.proofs.lemmas.Bool.{cases_Bool}
 use Rattle.std.proofs.lemmas.List.{nil_from_length}
 use Rattle.std.proofs.Math.Nat.{suc-add}
 use Rattle.std.proofs.lemmas.List.Sums.{sum_by_push}
 use Rattle.std.specs.List.{AllByRecursion, slice_get}
-use Rattle.metering_model.specs.Events.{Event, Kept, Pulse, pulses_of}
-use Rattle.metering_model.specs.Records.{MeterRecord, Register as RegisterModel, Settings, record_after, register_after, zero_record, pulses_in, energy_in, bound_in}
+use Rattle.metering_model.specs.Events.{Kept, Pulse, pulses_of}
+use Rattle.metering_model.specs.Records.{MeterRecord, record_after, zero_record, energy_in}
 use Rattle.script_model.specs.Lines.{lines_of}
 use Rattle.script_model.specs.Grammar.{Metering}
-use Rattle.trace_model.specs.Trace.{Entry, Put, Trace, ◌▷◌, IsFresh, base_of}
+use Rattle.trace_model.specs.Trace.{Put, Trace, ◌▷◌, IsFresh}
 use Rattle.trace_model.specs.Output.{OutputLine, PutsAlone, ends_line, output_lines, open_segment}
 use Rattle.trace_model.proofs.Lines.{output_lines-line, open_segment-line, output_lines-piece, open_segment-piece}
 use Rattle.journal_model.specs.Faults.{fault_of}
 use Rattle.journal_model.specs.Texts.{ok_text}
-use Rattle.journal_model.specs.Pairing.{Answers, Pairs, Replies}
+use Rattle.journal_model.specs.Pairing.{Answers, Pairs}
 use Rattle.journal_model.proofs.Pairs.{pairs-more, pairs-length}
 use Rattle.journal_model.proofs.Texts.{IsPrintable, ends_line-ok_text, front_of_ok_text}
 use Rattle.meter_board.specs.Puts.{PutsFront}
@@ -22,7 +22,7 @@ use Rattle.energy_register.specs.declared.Register.{Register}
 use Rattle.event_script.specs.declared.LineFault.{LineFault}
 use Rattle.event_script.specs.Views.{fault_view}
 use Rattle.run_engine.specs.Views.{record_view}
-use Rattle.run_engine.specs.Dry.{AddsNone, EndsAt, IsFrontOfAnswer, Ran, dry_settings}
+use Rattle.run_engine.specs.Dry.{AddsNone, IsFrontOfAnswer, Ran, dry_settings}
 use Rattle.run_engine.specs.Takes.{TakesPulses}
 use Rattle.run_engine.specs.declared.Ended.TheVariants.{Done, Line, Write}
 

@@ -1,9 +1,5 @@
-use Rattle.std.proofs.Common.{◌≡◌, ◌+◌, ◌∙◌, sym, subst, arith}
+use Rattle.std.proofs.Common.{◌+◌, ◌∙◌, sym, subst, arith}
 use Rattle.std.proofs.lemmas.Bool.{eqb-true}
-use Rattle.journal_model.specs.Texts.{ok_text}
-use Rattle.trace_model.specs.Trace.{Put, ◌▷◌}
-use Rattle.run_engine.specs.Views.{record_view}
-use Rattle.run_engine.specs.Dry.{dry_settings}
 use Rattle.run_engine.proofs.Runs.{Going, refused, done, goes_on, failed, printable, text_of, no_bytes}
 use Rattle.run_engine.proofs.answer.answer_lines.Goals as goal
 

@@ -1,6 +1,6 @@
 use Rattle.std.proofs.Common.{◌≡◌, ◌<◌, ◌++◌, [], length, subst, sym}
 use Rattle.meter_board.specs.Causes.{Rose}
-use Rattle.run_engine.specs.Dry.{Ran, dry_settings}
+use Rattle.run_engine.specs.Dry.{dry_settings}
 use Rattle.run_engine.specs.Takes.{AnswersLines}
 use Rattle.run_engine.proofs.Complete.{completes}
 use Rattle.run_engine.proofs.Whole.{of_script, read_to_end}
