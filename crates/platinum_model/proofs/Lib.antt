@@ -4,3 +4,4 @@ pub mod Rising
 pub mod Scaled
 pub mod Samples
 pub mod Cells
+pub mod Pairs

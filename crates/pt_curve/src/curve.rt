@@ -48,7 +48,8 @@ impl Curve {
     /// The resistance at `t_ndeg` nanodegrees Celsius in units of 10^-28 microohms, exactly.
     pub fn resist(&self, t_ndeg: u64) -> i128
         requires { t_ndeg ≤ 180000000000 }
-        ensures exact { IsRatio result (pos (10 ^ 28)) (resistance (element self.now) (nanodegrees t_ndeg)) }
+        ensures exact { IsRatio result (pos (10 ^ 28))
+            (resistance (element self.now) (nanodegrees t_ndeg)) }
         ensures positive { pos 0 ≤ℤ result }
         ensures limit { result ≤ℤ pos (18 * 10 ^ 36) }
     {
@@ -103,7 +104,8 @@ impl Curve {
         requires range { step * steps ≤ 180000000000 }
         requires enough { steps ≤ 2 ^ halvings }
         requires low { pos (2 * scaled_resistance (element self.now) 0) ≤ℤ target }
-        requires high { target <ℤ pos (2 * scaled_resistance (element self.now) (step * steps)) }
+        requires high { target
+            <ℤ pos (2 * scaled_resistance (element self.now) (step * steps)) }
         ensures { IsLastStep (element self.now) target step steps result }
     {
         let mut last = 0;

@@ -19,13 +19,20 @@ pub struct Pair {
 
 impl Pair {
     /// What the samples `rf` of the flow and `rr` of the return say, both in microohms.
+    #[tactic(auto, using(crate::proofs::Differences::one_difference))]
     pub fn judge(&self, rf: u32, rr: u32) -> Verdict
-        ensures flow_out { (result ≡ Verdict.FlowOut) ↔ (¬ IsInRange (element self.now.flow) rf × IsInRange (element self.now.ret) rr) }
-        ensures return_out { (result ≡ Verdict.ReturnOut) ↔ (IsInRange (element self.now.flow) rf × ¬ IsInRange (element self.now.ret) rr) }
-        ensures both_out { (result ≡ Verdict.BothOut) ↔ (¬ IsInRange (element self.now.flow) rf × ¬ IsInRange (element self.now.ret) rr) }
-        ensures small { (result ≡ Verdict.Small) ↔ IsSmallPair (element self.now.flow) (element self.now.ret) rf rr }
-        ensures counts { IsCounts result ↔ IsCountingPair (element self.now.flow) (element self.now.ret) rf rr }
-        ensures cells { IfCounts result (λ f r. IsCellSpan (element self.now.flow) rf f.lo f.hi × IsCellSpan (element self.now.ret) rr r.lo r.hi) }
+        ensures flow_out { (result ≡ Verdict.FlowOut)
+            ↔ (¬ IsInRange (element self.now.flow) rf × IsInRange (element self.now.ret) rr) }
+        ensures return_out { (result ≡ Verdict.ReturnOut)
+            ↔ (IsInRange (element self.now.flow) rf × ¬ IsInRange (element self.now.ret) rr) }
+        ensures both_out { (result ≡ Verdict.BothOut)
+            ↔ (¬ IsInRange (element self.now.flow) rf × ¬ IsInRange (element self.now.ret) rr) }
+        ensures small { (result ≡ Verdict.Small)
+            ↔ IsSmallPair (element self.now.flow) (element self.now.ret) rf rr }
+        ensures counts { IsCounts result
+            ↔ IsCountingPair (element self.now.flow) (element self.now.ret) rf rr }
+        ensures cells { IfCounts result (λ f r. IsCellSpan (element self.now.flow) rf f.lo f.hi
+            × IsCellSpan (element self.now.ret) rr r.lo r.hi) }
     {
         match (self.flow.whole_temp(rf), self.ret.whole_temp(rr)) {
             (None, None) => Verdict::BothOut,
