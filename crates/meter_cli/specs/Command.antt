@@ -1,5 +1,5 @@
 -- The words of the command line.
-use Rattle.std.specs.Prelude.{◌≡◌, ℕ, Bool, List, [], ◌∷◌, cond, nat_eq, codes, map, Option, Some, None, Result, Ok, Err, MatchResult}
+use Rattle.std.specs.Prelude.{◌≡◌, ◌≤◌, ℕ, Bool, List, [], ◌∷◌, cond, nat_eq, codes, map, Option, Some, None, Result, Ok, Err, MatchResult}
 use Rattle.std.specs.Cmp.Lexicographic.{pointwise}
 use Rattle.std.specs.Borrow.{Bor}
 use Rattle.script_model.specs.Numbers.{number_in}
@@ -7,7 +7,7 @@ use Rattle.script_model.specs.Grammar.{◌>>=◌, word_at, end_at}
 use Rattle.pt_curve.specs.declared.sensor.Sensor.{Sensor}
 use Rattle.pt_curve.specs.declared.sensor.Sensor.TheVariants.{Pt100, Pt500, Pt1000}
 use Rattle.meter_cli.specs.declared.job.Job.{Job}
-use Rattle.meter_cli.specs.declared.job.Job.TheVariants.{Dry, Temp}
+use Rattle.meter_cli.specs.declared.job.Job.TheVariants.{Dry, Temp, Water}
 use Rattle.meter_cli.specs.declared.job.Usage.{Usage}
 
 -- the word is this text
@@ -26,10 +26,14 @@ max_sample = 4294967295
 abbrev pub temp_words : List (List ℕ) → Result Job ℕ
 temp_words words = word_at 1 sensor_of words >>= λ sensor. word_at 2 (number_in 0 max_sample) sensor.1 >>= λ r. end_at 3 (Temp sensor.0 r.0) r.1
 
+-- `water P T`, from 1,100 to 4,000 kPa and from 0 to 180,000,000 microdegrees
+abbrev pub water_words : List (List ℕ) → Result Job ℕ
+water_words words = word_at 1 (number_in 1100 4000) words >>= λ p. word_at 2 (number_in 0 180000000) p.1 >>= λ t. end_at 3 (Water p.0 t.0) t.1
+
 -- the command that words say, or the place of the first wrong, missing or extra word, from 0
 abbrev pub command_of : List (List ℕ) → Result Job ℕ
 command_of [] = Err 0
-command_of (name ∷ words) = cond (is_text (codes "dry") name) (end_at 1 Dry words) (cond (is_text (codes "temp") name) (temp_words words) (Err 0))
+command_of (name ∷ words) = cond (is_text (codes "dry") name) (end_at 1 Dry words) (cond (is_text (codes "temp") name) (temp_words words) (cond (is_text (codes "water") name) (water_words words) (Err 0)))
 
 -- the texts of the words
 abbrev pub texts : List (Bor (List ℕ)) → List (List ℕ)
@@ -38,6 +42,18 @@ texts words = map (λ w. w.now) words
 -- what was read is what the definition says, and so is the place of the first wrong word
 abbrev pub Says : Result Job Usage → Result Job ℕ → Type 0
 Says result said = MatchResult result (λ job. said ≡ Ok job) (λ e. said ≡ Err e.word)
+
+-- the numbers of a command are in their ranges
+abbrev pub IsInRange : Job → Type 0
+IsInRange Dry = Unit {0}
+IsInRange (Temp sensor r) = r ≤ 4294967295
+IsInRange (Water p t) = (1100 ≤ p) × (p ≤ 4000) × (t ≤ 180000000)
+
+-- a command that reads nothing and puts one line
+abbrev pub PutsOneLine : Job → Type 0
+PutsOneLine Dry = ⊥
+PutsOneLine (Temp sensor r) = Unit {0}
+PutsOneLine (Water p t) = Unit {0}
 
 -- the words begin with this one, where there is one
 abbrev pub BeginsWith : List (List ℕ) → Option (Bor (List ℕ) × Bor (List (Bor (List ℕ)))) → Type 0

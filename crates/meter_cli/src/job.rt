@@ -1,7 +1,7 @@
 //! The words of the command line.
-ghost use Rattle.std.specs.Prelude.{◌≡◌, ℕ, IfSome, ◌≤◌};
+ghost use Rattle.std.specs.Prelude.{◌≡◌, IfOk};
 ghost use Rattle.script_model.specs.Grammar.{end_at};
-ghost use Rattle.meter_cli.specs.Command.{BeginsWith, Says, command_of, sensor_of, temp_words, texts};
+ghost use Rattle.meter_cli.specs.Command.{BeginsWith, IsInRange, Says, command_of, sensor_of, temp_words, texts, water_words};
 
 use event_script::number_word;
 use pt_curve::Sensor;
@@ -14,6 +14,9 @@ pub enum Job {
     Dry,
     /// `temp R0 R`: the whole temperature that a sample of `r` microohms of this sensor stands for.
     Temp { sensor: Sensor, r: u32 },
+    /// `water P T`: the specific volume and enthalpy of water at `p_kpa` kPa, 1,100 to 4,000, and `t_udeg`
+    /// microdegrees Celsius, 0 to 180,000,000.
+    Water { p_kpa: u32, t_udeg: u32 },
 }
 
 /// The words are no command, with the place of the first wrong, missing or extra word, counted from 0.
@@ -26,12 +29,21 @@ pub struct Usage {
 /// The most microohms of a sample.
 const MAX_SAMPLE: u64 = 4_294_967_295;
 
+/// The pressures of water, in kPa.
+const MIN_PRESSURE: u64 = 1_100;
+
+const MAX_PRESSURE: u64 = 4_000;
+
+/// The highest temperature of water, in microdegrees Celsius.
+const MAX_TEMPERATURE: u64 = 180_000_000;
+
 /// The command that the words after the program's name say.
 ///
 /// # Errors
 /// [`Usage`] exactly where the words are no command.
 pub fn command(words: &[&str]) -> Result<Job, Usage>
-    ensures { Says result (command_of (texts words.now)) }
+    ensures says { Says result (command_of (texts words.now)) }
+    ensures range { IfOk result IsInRange }
 {
     let Some((name, rest)) = first_of(words) else {
         return Err(Usage { word: 0 });
@@ -40,6 +52,8 @@ pub fn command(words: &[&str]) -> Result<Job, Usage>
         dry(rest)
     } else if name.as_bytes() == b"temp".as_slice() {
         temp(rest)
+    } else if name.as_bytes() == b"water".as_slice() {
+        water(rest)
     } else {
         Err(Usage { word: 0 })
     }
@@ -47,7 +61,8 @@ pub fn command(words: &[&str]) -> Result<Job, Usage>
 
 // The words after `dry`.
 fn dry(words: &[&str]) -> Result<Job, Usage>
-    ensures { Says result (end_at 1 Job.Dry (texts words.now)) }
+    ensures says { Says result (end_at 1 Job.Dry (texts words.now)) }
+    ensures range { IfOk result IsInRange }
 {
     match first_of(words) {
         Some(_) => Err(Usage { word: 1 }),
@@ -57,7 +72,8 @@ fn dry(words: &[&str]) -> Result<Job, Usage>
 
 // The words after `temp`.
 fn temp(words: &[&str]) -> Result<Job, Usage>
-    ensures { Says result (temp_words (texts words.now)) }
+    ensures says { Says result (temp_words (texts words.now)) }
+    ensures range { IfOk result IsInRange }
 {
     let Some((word, words)) = first_of(words) else {
         return Err(Usage { word: 1 });
@@ -76,6 +92,32 @@ fn temp(words: &[&str]) -> Result<Job, Usage>
         None => Ok(Job::Temp {
             sensor,
             r: r as u32,
+        }),
+    }
+}
+
+// The words after `water`.
+fn water(words: &[&str]) -> Result<Job, Usage>
+    ensures says { Says result (water_words (texts words.now)) }
+    ensures range { IfOk result IsInRange }
+{
+    let Some((word, words)) = first_of(words) else {
+        return Err(Usage { word: 1 });
+    };
+    let Some(pressure) = number_word(word.as_bytes(), MIN_PRESSURE, MAX_PRESSURE) else {
+        return Err(Usage { word: 1 });
+    };
+    let Some((word, words)) = first_of(words) else {
+        return Err(Usage { word: 2 });
+    };
+    let Some(temperature) = number_word(word.as_bytes(), 0, MAX_TEMPERATURE) else {
+        return Err(Usage { word: 2 });
+    };
+    match first_of(words) {
+        Some(_) => Err(Usage { word: 3 }),
+        None => Ok(Job::Water {
+            p_kpa: pressure as u32,
+            t_udeg: temperature as u32,
         }),
     }
 }

@@ -2,7 +2,8 @@
 #![tactic(auto)]
 
 mod job;
-mod small;
+mod one_line;
+mod physics;
 mod status;
 #[cfg(test)]
 mod tests;

@@ -168,6 +168,41 @@ fn samples_have_their_temperatures(rt: HostRuntime) -> Result<(), Fail> {
     Ok(())
 }
 
+// The two ends of the volume and of the enthalpy that `water` puts.
+fn water_ends(
+    rt: &(impl Abort + AllocGlobal),
+    p: &str,
+    t: &str,
+) -> Result<(i128, i128, i128, i128), Fail> {
+    let mut board = board(rt)?;
+    let mut source = SliceSource::new(b"", 1);
+    assert_eq!(rt;
+        meter(rt.alloc(), &["water", p, t], &mut source, &mut board),
+        Status::Done
+    );
+    let bytes: Vec<u8> = board.output().collect(rt.alloc())?;
+    let mut words = std::str::from_utf8(&bytes)?.split_whitespace();
+    assert_eq!(rt; words.next(), Some("v"));
+    let v_lo = words.next().ok_or("no number")?.parse::<i128>()?;
+    let v_hi = words.next().ok_or("no number")?.parse::<i128>()?;
+    assert_eq!(rt; words.next(), Some("h"));
+    let h_lo = words.next().ok_or("no number")?.parse::<i128>()?;
+    let h_hi = words.next().ok_or("no number")?.parse::<i128>()?;
+    assert_eq!(rt; words.next(), None);
+    Ok((v_lo, v_hi, h_lo, h_hi))
+}
+
+// IAPWS-IF97 publishes v = 0.100215168e-2 m³/kg and h = 0.115331273e3 kJ/kg at 300 K and 3 MPa.
+#[test]
+fn water_is_as_published(rt: HostRuntime) -> Result<(), Fail> {
+    let (v_lo, v_hi, h_lo, h_hi) = water_ends(&rt, "3000", "26850000")?;
+    assert!(&rt; 1_002_151_674_000 <= v_lo && v_lo <= v_hi && v_hi <= 1_002_151_686_000);
+    assert!(&rt; v_lo <= 1_002_151_685_000 && 1_002_151_675_000 <= v_hi);
+    assert!(&rt; 115_331_271_500 <= h_lo && h_lo <= h_hi && h_hi <= 115_331_274_500);
+    assert!(&rt; h_lo <= 115_331_273_500 && 115_331_272_500 <= h_hi);
+    Ok(())
+}
+
 #[test]
 fn words_are_tested(rt: HostRuntime) {
     assert_eq!(&rt; command(&["dry"]), Ok(Job::Dry));
@@ -189,6 +224,10 @@ fn words_are_tested(rt: HostRuntime) {
         (["temp", "100", "4294967296"].as_slice(), 2),
         (["temp", "100", "-1"].as_slice(), 2),
         (["temp", "100", "1", "1"].as_slice(), 3),
+        (["water", "1099", "0"].as_slice(), 1),
+        (["water", "4001", "0"].as_slice(), 1),
+        (["water", "1100", "180000001"].as_slice(), 2),
+        (["water", "4000", "180000000", ""].as_slice(), 3),
     ] {
         assert_eq!(&rt; command(words), Err(Usage { word }));
     }

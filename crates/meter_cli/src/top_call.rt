@@ -7,13 +7,15 @@ ghost use Rattle.trace_model.specs.Output.{PutsAlone};
 ghost use Rattle.journal_model.specs.Pairing.{NoneRefused};
 ghost use Rattle.meter_board.specs.Causes.{Rose};
 ghost use Rattle.run_engine.specs.Dry.{dry_settings};
-ghost use Rattle.meter_cli.specs.Command.{command_of, texts};
+ghost use Rattle.meter_cli.specs.Command.{PutsOneLine, command_of, texts};
 ghost use Rattle.meter_cli.specs.Status.{DryLeaves, status_of};
 ghost use Rattle.meter_cli.specs.Temp.{TempLeaves};
+ghost use Rattle.meter_cli.specs.Water.{WaterLeaves};
+ghost use Rattle.meter_cli.specs.declared.job.Job.{Job};
 ghost use Rattle.pt_curve.specs.declared.sensor.Sensor.{Sensor};
 
 use crate::job::{Job, command};
-use crate::small::temp;
+use crate::physics::{temp, water};
 use crate::status::Status;
 use meter_board::{Board, Source};
 use run_engine::{Ended, dry};
@@ -38,10 +40,11 @@ pub fn meter<S: Source, B: Board>(
     ensures complete { command_of (texts words.now) ≡ Ok Job.Dry → S.tells → B.tells → NoneRefused dry_settings zero_record (lines_of (S.left source.old)) → ¬ Rose (S.faults source.old) (S.faults source.new) → ¬ Rose (B.output_faults board.old) (B.output_faults board.new) → (result ≡ Status.Done) ⊎ (result ≡ Status.OutOfMemory) }
     ensures end { command_of (texts words.now) ≡ Ok Job.Dry → S.tells → B.tells → result ≡ Status.Done → S.left source.new ≡ [] }
 
-    // `temp` reads nothing, and is done where the output takes its line.
+    // The commands that put one line read nothing, and are done unless the output failed.
     ensures temp { (sensor : Sensor) (r : ℕ) → command_of (texts words.now) ≡ Ok (Job.Temp sensor r) → B.tells → TempLeaves sensor r (B.trace board.old) (B.trace board.new) result }
-    ensures temp_complete { (sensor : Sensor) (r : ℕ) → command_of (texts words.now) ≡ Ok (Job.Temp sensor r) → (result ≡ Status.Done) ⊎ Rose (B.output_faults board.old) (B.output_faults board.new) }
-    ensures unread { (sensor : Sensor) (r : ℕ) → command_of (texts words.now) ≡ Ok (Job.Temp sensor r) → source.new ≡ source.old }
+    ensures water { (p t : ℕ) → command_of (texts words.now) ≡ Ok (Job.Water p t) → B.tells → WaterLeaves p t (B.trace board.old) (B.trace board.new) result }
+    ensures one_line { (job : Job) → command_of (texts words.now) ≡ Ok job → PutsOneLine job → (result ≡ Status.Done) ⊎ Rose (B.output_faults board.old) (B.output_faults board.new) }
+    ensures unread { (job : Job) → command_of (texts words.now) ≡ Ok job → PutsOneLine job → source.new ≡ source.old }
 
     // Nothing happens to the board but that bytes go out.
     ensures puts { B.tells → PutsAlone (B.trace board.new) }
@@ -54,6 +57,7 @@ pub fn meter<S: Source, B: Board>(
         Err(usage) => Status::Usage { word: usage.word },
         Ok(Job::Dry) => status_from(dry(alloc, source, board)),
         Ok(Job::Temp { sensor, r }) => temp(board, sensor, r),
+        Ok(Job::Water { p_kpa, t_udeg }) => water(board, p_kpa, t_udeg),
     }
 }
 

@@ -1,0 +1,28 @@
+//! Tables of decimal coefficients with their exponents, and the coefficients enclosed at a binary scale.
+#![tactic(auto)]
+
+mod decimal;
+mod division;
+mod region1;
+mod table;
+
+pub use decimal::enclose;
+pub use region1::region1_table;
+pub use table::{Table, Term};
+
+/// Unrolls a body for each of the literal terms, rows `(I, J, mantissa, exp10)`, inside a function.
+/// `for_terms!(t in [..] => e)` is the array of the values of `e`, one for each term `t`.
+#[macro_export]
+macro_rules! for_terms {
+    ($term:ident in [$(($i:literal, $j:literal, $mantissa:literal, $exp10:literal)),* $(,)?] => $value:expr) => {
+        [$({
+            let $term = $crate::Term {
+                i: $i,
+                j: $j,
+                mantissa: $mantissa,
+                exp10: $exp10,
+            };
+            $value
+        }),*]
+    };
+}

@@ -1,0 +1,79 @@
+-- What sizes say of ranges and widths.
+use Rattle.std.proofs.Common.{◌≡◌, ℕ, ◌+◌, ◌*◌, ◌^◌, ◌<◌, ◌≤◌, arith, lit<, lit≤, refl, ℤ, pos, negsuc, neg_ℤ, ◌+ℤ◌, ◌*ℤ◌, ◌≤ℤ◌}
+use Rattle.std.proofs.lemmas.Int.{ints}
+use lib.IntN.{◌-ℤ◌}
+use native.Mathlib.Nat.{mul-le-mul_right}
+use Rattle.number_model.specs.Fraction.{Fraction, ◌*ℚ◌, whole}
+use Rattle.number_model.specs.Enclosure.{Holds, SpanHolds}
+use Rattle.number_model.specs.Rounding.{IsWithin, floor_div, ceil_div}
+use Rattle.number_model.proofs.Ints.{≤ℤ_trans, mul-le_pos, le_of_mul-le_pos, recast, as_diff, same_diff, diffs}
+use Rattle.number_model.proofs.Roundings.{floor_div-scale_down, ceil_div-scale_down}
+use Rattle.interval_num.specs.Ends.{ProductsWithin, quotient_floor, quotient_ceil}
+use Rattle.water_model.specs.Decimal.{decimal}
+use Rattle.water_model.specs.Water.{kelvin}
+use Rattle.enclosure_sizes.specs.Size.{Sized, SizedBy, parts}
+use Rattle.enclosure_sizes.proofs.Ranges.{products_within}
+use Rattle.enclosure_sizes.proofs.Sizes.{Sized-near}
+use Rattle.region1_terms.proofs.Coefficients.{coefficient_ends}
+use Rattle.region1_terms.proofs.Temperatures.{Sized-hull}
+use Rattle.if97_region1.specs.Sizes.{row_13_size, volume_factor_size, heat_factor_size}
+
+-- ---- ranges
+within_low : (m a b d : ℕ) (l h : ℤ) → l ≤ℤ h → Sized m a b d l h → IsWithin m l
+within_low m a b d l h order z = record { low = z.low; high = omega (arith, ints, order, z.high) }
+
+within_high : (m a b d : ℕ) (l h : ℤ) → l ≤ℤ h → Sized m a b d l h → IsWithin m h
+within_high m a b d l h order z = record { low = omega (arith, ints, order, z.low); high = z.high }
+
+pub sized_products : (k m a b n a' b' d : ℕ) (l h l' h' : ℤ) → l ≤ℤ h → l' ≤ℤ h' → Sized m a b d l h → Sized n a' b' d l' h' → m * n ≤ k → ProductsWithin k l h l' h'
+sized_products k m a b n a' b' d l h l' h' order order' y z room =
+    products_within m n k l h l' h' room (within_low m a b d l h order y) (within_high m a b d l h order y) (within_low n a' b' d l' h' order' z) (within_high n a' b' d l' h' order' z)
+
+pub sized_sums : (m a b n a' b' d : ℕ) (l h l' h' : ℤ) → Sized m a b d l h → Sized n a' b' d l' h' → m + n ≤ 2 ^ 62 → (neg_ℤ (pos (2 ^ 62)) ≤ℤ (l +ℤ l')) × ((h +ℤ h') ≤ℤ pos (2 ^ 62))
+sized_sums m a b n a' b' d l h l' h' y z room = (omega (arith, ints, y.low, z.low, room), omega (arith, ints, y.high, z.high, room))
+
+pub kelvin_above : (lo hi : ℕ) (t : Fraction) → SpanHolds lo hi t → pos 1 ≤ℤ (kelvin t).num
+kelvin_above lo hi t s = above t.num t.den lo t.positive s.low.crossed
+  where
+    above : (z : ℤ) (d lo : ℕ) → 0 < d → (pos lo *ℤ pos d) ≤ℤ (z *ℤ pos 1000000000) → pos 1 ≤ℤ (z *ℤ pos 100 +ℤ pos 27315 *ℤ pos d)
+    above (pos n) d lo p h = omega (arith, ints, p)
+    above (negsuc n) d lo p h = absurd (omega (arith, ints, h))
+
+-- ---- the width in decimal units
+pub width_from : (a b d m n N s : ℕ) (l h : ℤ) → ((h -ℤ l) *ℤ pos parts) ≤ℤ pos (a + b * d) → a * N ≤ m * s * parts → b * N ≤ n * s * parts → ((h -ℤ l) *ℤ pos N) ≤ℤ pos ((m + n * d) * s)
+width_from a b d m n N s l h w base per =
+    let scaled : (((h -ℤ l) *ℤ pos parts) *ℤ pos N) ≤ℤ (pos (a + b * d) *ℤ pos N) = mul-le_pos N w in
+    let line : (a + b * d) * N ≤ (m + n * d) * s * parts = omega (arith, base, mul-le-mul_right d per) in
+    le_of_mul-le_pos parts (lit< tt) (≤ℤ_trans (recast scaled (turn (h -ℤ l) N parts) refl) (up line))
+  where
+    turn : (z : ℤ) (a b : ℕ) → (z *ℤ pos a) *ℤ pos b ≡ (z *ℤ pos b) *ℤ pos a
+    turn z a b = rw (as_diff z) (simp diffs (same_diff _ _ _ _ (omega arith)))
+
+    up : {a b : ℕ} → a ≤ b → pos a ≤ℤ pos b
+    up h = omega (arith, ints, h)
+
+-- ---- constants
+pub row_13_sized : (d : ℕ) (lo hi : ℤ) → hi ≤ℤ (lo +ℤ pos 4) → Holds 56 lo hi (decimal (pos 21841717175414) (negsuc 14) *ℚ whole (2 ^ 0)) → SizedBy row_13_size d lo hi
+row_13_sized d lo hi w p =
+    let ends = coefficient_ends (pos 21841717175414) (negsuc 14) lo hi 0 56 refl p in
+    Sized-near _ 4 d lo hi ends.0 ends.1 w
+
+pub volume_factor_sized : (d : ℕ) → SizedBy volume_factor_size d (quotient_floor 56 (pos 639675036) (pos 16530000000)) (quotient_ceil 56 (pos 639675036) (pos 16530000000))
+volume_factor_sized d =
+    Sized-hull 639675036 16530000000 639675036 16530000000 0 d volume_factor_size.most 0 1
+    (record { low = lit< tt; high = lit< tt; order = lit≤ tt; apart = omega arith; most = lit≤ tt; above = lit< tt; least = lit≤ tt; slope = lit≤ tt })
+
+pub heat_factor_sized : (d : ℕ) → SizedBy heat_factor_size d (quotient_floor 48 (pos 639675036) (pos 1000000)) (quotient_ceil 48 (pos 639675036) (pos 1000000))
+heat_factor_sized d = record { low = omega (arith, ints); high = omega (arith, ints); width = omega (arith, ints) }
+
+pub floor_coarser : (z : ℤ) → floor_div (z *ℤ pos (2 ^ 48)) (2 ^ 56) ≡ floor_div z (2 ^ 8)
+floor_coarser z = floor_div-scale_down 56 48 z (lit≤ tt)
+
+pub ceil_coarser : (z : ℤ) → ceil_div (z *ℤ pos (2 ^ 48)) (2 ^ 56) ≡ ceil_div z (2 ^ 8)
+ceil_coarser z = ceil_div-scale_down 56 48 z (lit≤ tt)
+
+pub within_most : {m n : ℕ} {z : ℤ} → m ≤ n → neg_ℤ (pos m) ≤ℤ z → neg_ℤ (pos n) ≤ℤ z
+within_most h k = omega (arith, ints, h, k)
+
+pub most_within : {m n : ℕ} {z : ℤ} → m ≤ n → z ≤ℤ pos m → z ≤ℤ pos n
+most_within h k = omega (arith, ints, h, k)

@@ -1,0 +1,61 @@
+ghost use Rattle.std.specs.Prelude.{◌≡◌, ◌+◌, ◌-◌, ◌*◌, ◌^◌, ◌≤◌, ◌↔◌, IsOk, IfOk, IfErr, pos, neg_ℤ, ◌-ℤ◌, ◌*ℤ◌, ◌≤ℤ◌};
+ghost use Rattle.number_model.specs.Fraction.{Fraction};
+ghost use Rattle.number_model.specs.Enclosure.{Holds, SpanHolds};
+ghost use Rattle.water_model.specs.Water.{volume, enthalpy};
+
+use crate::joined::{enthalpy_over, volume_over};
+use interval_num::{Enc, Span};
+use region1_terms::Variables;
+
+/// A pressure outside 1,100 to 4,000 kPa.
+#[derive(Clone, Copy, Debug, PartialEq, Eq)]
+pub struct Pressure {
+    pub p_kpa: u32,
+}
+
+/// Water at one pressure, 1,100 to 4,000 kPa.
+#[derive(Clone, Copy, Debug, PartialEq, Eq)]
+pub struct Water {
+    pub p_kpa: u32,
+    pub ghost low: { 1100 ≤ p_kpa },
+    pub ghost high: { p_kpa ≤ 4000 },
+}
+
+impl Water {
+    /// Water at `p_kpa` kPa, or the pressure where it is outside 1,100 to 4,000.
+    pub fn new(p_kpa: u32) -> Result<Water, Pressure>
+        ensures accepted { IsOk result ↔ ((1100 ≤ p_kpa) × (p_kpa ≤ 4000)) }
+        ensures kept { IfOk result (λ w. w.p_kpa ≡ p_kpa) }
+        ensures refused { IfErr result (λ e. e.p_kpa ≡ p_kpa) }
+    {
+        if (1_100..=4_000).contains(&p_kpa) {
+            Ok(Water { p_kpa })
+        } else {
+            Err(Pressure { p_kpa })
+        }
+    }
+
+    /// The specific volume in m³/kg at each temperature of `s`, which is d <= 3,000 nanodegrees wide.
+    /// It lies between 0.0009 and 0.0014, and its width is at most (1,000 + 3 d) * 10^-15.
+    pub fn volume(&self, s: Span) -> Enc<56>
+        requires { s.hi - s.lo ≤ 3000 }
+        ensures holds { (t : Fraction) → SpanHolds s.lo s.hi t → Holds 56 result.lo result.hi (volume self.now.p_kpa t) }
+        ensures least { pos (9 * 2 ^ 56) ≤ℤ (result.lo *ℤ pos 10000) }
+        ensures most { (result.hi *ℤ pos 10000) ≤ℤ pos (14 * 2 ^ 56) }
+        ensures width { ((result.hi -ℤ result.lo) *ℤ pos (10 ^ 15)) ≤ℤ pos ((1000 + 3 * (s.hi - s.lo)) * 2 ^ 56) }
+    {
+        volume_over(&Variables::over(self.p_kpa, s))
+    }
+
+    /// The specific enthalpy in kJ/kg at each temperature of `s`, which is d <= 3,000 nanodegrees wide.
+    /// It lies between -200 and 1,000, and its width is at most (1,000 + 150 d) * 10^-9.
+    pub fn enthalpy(&self, s: Span) -> Enc<48>
+        requires { s.hi - s.lo ≤ 3000 }
+        ensures holds { (t : Fraction) → SpanHolds s.lo s.hi t → Holds 48 result.lo result.hi (enthalpy self.now.p_kpa t) }
+        ensures least { neg_ℤ (pos (200 * 2 ^ 48)) ≤ℤ result.lo }
+        ensures most { result.hi ≤ℤ pos (1000 * 2 ^ 48) }
+        ensures width { ((result.hi -ℤ result.lo) *ℤ pos (10 ^ 9)) ≤ℤ pos ((1000 + 150 * (s.hi - s.lo)) * 2 ^ 48) }
+    {
+        enthalpy_over(&Variables::over(self.p_kpa, s))
+    }
+}

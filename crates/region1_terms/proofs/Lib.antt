@@ -1,0 +1,4 @@
+pub mod Raised
+pub mod Scaled
+pub mod Coefficients
+pub mod Temperatures

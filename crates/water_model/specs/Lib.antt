@@ -1,0 +1,3 @@
+pub mod Decimal
+pub mod Region1
+pub mod Water
