@@ -26,3 +26,6 @@ macro_rules! for_terms {
         }),*]
     };
 }
+
+#[cfg(test)]
+mod tests;

@@ -41,10 +41,18 @@ abbrev pub power_line : ℕ → ℕ → ℕ → ℕ → ℕ
 power_line D n m a = slope n m * a * D / D ^ n + 1
 
 abbrev pub product_size : ℕ → Size → Size → Size
-product_size D s t = record { most = product_most D s.most t.most; base = product_line D s.most s.base t.most t.base + 2 * parts; per = product_line D s.most s.per t.most t.per }
+product_size D s t = record {
+  most = product_most D s.most t.most;
+  base = product_line D s.most s.base t.most t.base + 2 * parts;
+  per = product_line D s.most s.per t.most t.per;
+}
 
 abbrev pub power_size : ℕ → ℕ → Size → Size
-power_size D n s = record { most = power_most D n s.most; base = power_line D n s.most s.base + 2 * n * parts; per = power_line D n s.most s.per }
+power_size D n s = record {
+  most = power_most D n s.most;
+  base = power_line D n s.most s.base + 2 * n * parts;
+  per = power_line D n s.most s.per;
+}
 
 -- at a coarser scale, by the factor n
 abbrev pub down_size : ℕ → Size → Size

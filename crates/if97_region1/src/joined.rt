@@ -14,8 +14,9 @@ use region1_terms::Variables;
 // g_pi / tau = -n13 + D / tau + U y / tau: with y / tau as one ratio, both factors fall or rise
 // together with the temperature, and the product stays narrow
 fn joined(v: &Variables) -> Enc<56>
-    ensures holds { (t : Fraction) → SpanHolds v.now.span.lo v.now.span.hi t
-        → Holds 56 result.lo result.hi (joined_volume (x_of v.now.pressure) (y_of t) (u_of t) (r_of t)) }
+    ensures holds { (t : Fraction) →
+        SpanHolds v.now.span.lo v.now.span.hi t →
+        Holds 56 result.lo result.hi (joined_volume (x_of v.now.pressure) (y_of t) (u_of t) (r_of t)) }
     ensures sized { SizedBy joined_size (v.now.span.hi - v.now.span.lo) result.lo result.hi }
 {
     let first = enclose(
@@ -34,7 +35,8 @@ fn joined(v: &Variables) -> Enc<56>
 
 /// v = 1386 R / 16530 * g_pi / tau, in m³/kg.
 pub(crate) fn volume_over(v: &Variables) -> Enc<56>
-    ensures holds { (t : Fraction) → SpanHolds v.now.span.lo v.now.span.hi t → Holds 56 result.lo result.hi (volume v.now.pressure t) }
+    ensures holds { (t : Fraction) →
+        SpanHolds v.now.span.lo v.now.span.hi t → Holds 56 result.lo result.hi (volume v.now.pressure t) }
     ensures sized { SizedBy volume_size (v.now.span.hi - v.now.span.lo) result.lo result.hi }
 {
     joined(v).mul(Enc::of_ratio(639_675_036, 16_530_000_000))
@@ -42,7 +44,8 @@ pub(crate) fn volume_over(v: &Variables) -> Enc<56>
 
 /// h = 1386 R * g_tau, in kJ/kg.
 pub(crate) fn enthalpy_over(v: &Variables) -> Enc<48>
-    ensures holds { (t : Fraction) → SpanHolds v.now.span.lo v.now.span.hi t → Holds 48 result.lo result.hi (enthalpy v.now.pressure t) }
+    ensures holds { (t : Fraction) →
+        SpanHolds v.now.span.lo v.now.span.hi t → Holds 48 result.lo result.hi (enthalpy v.now.pressure t) }
     ensures sized { SizedBy enthalpy_size (v.now.span.hi - v.now.span.lo) result.lo result.hi }
 {
     let sum: Enc<48> = heat_sum(v).scale_to();

@@ -5,3 +5,6 @@ mod joined;
 mod water;
 
 pub use water::{Pressure, Water};
+
+#[cfg(test)]
+mod tests;

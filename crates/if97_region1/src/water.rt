@@ -39,10 +39,12 @@ impl Water {
     /// It lies between 0.0009 and 0.0014, and its width is at most (1,000 + 3 d) * 10^-15.
     pub fn volume(&self, s: Span) -> Enc<56>
         requires { s.hi - s.lo ≤ 3000 }
-        ensures holds { (t : Fraction) → SpanHolds s.lo s.hi t → Holds 56 result.lo result.hi (volume self.now.p_kpa t) }
+        ensures holds { (t : Fraction) →
+            SpanHolds s.lo s.hi t → Holds 56 result.lo result.hi (volume self.now.p_kpa t) }
         ensures least { pos (9 * 2 ^ 56) ≤ℤ (result.lo *ℤ pos 10000) }
         ensures most { (result.hi *ℤ pos 10000) ≤ℤ pos (14 * 2 ^ 56) }
-        ensures width { ((result.hi -ℤ result.lo) *ℤ pos (10 ^ 15)) ≤ℤ pos ((1000 + 3 * (s.hi - s.lo)) * 2 ^ 56) }
+        ensures width { ((result.hi -ℤ result.lo) *ℤ pos (10 ^ 15)) ≤ℤ
+            pos ((1000 + 3 * (s.hi - s.lo)) * 2 ^ 56) }
     {
         volume_over(&Variables::over(self.p_kpa, s))
     }
@@ -51,10 +53,12 @@ impl Water {
     /// It lies between -200 and 1,000, and its width is at most (1,000 + 150 d) * 10^-9.
     pub fn enthalpy(&self, s: Span) -> Enc<48>
         requires { s.hi - s.lo ≤ 3000 }
-        ensures holds { (t : Fraction) → SpanHolds s.lo s.hi t → Holds 48 result.lo result.hi (enthalpy self.now.p_kpa t) }
+        ensures holds { (t : Fraction) →
+            SpanHolds s.lo s.hi t → Holds 48 result.lo result.hi (enthalpy self.now.p_kpa t) }
         ensures least { neg_ℤ (pos (200 * 2 ^ 48)) ≤ℤ result.lo }
         ensures most { result.hi ≤ℤ pos (1000 * 2 ^ 48) }
-        ensures width { ((result.hi -ℤ result.lo) *ℤ pos (10 ^ 9)) ≤ℤ pos ((1000 + 150 * (s.hi - s.lo)) * 2 ^ 48) }
+        ensures width { ((result.hi -ℤ result.lo) *ℤ pos (10 ^ 9)) ≤ℤ
+            pos ((1000 + 150 * (s.hi - s.lo)) * 2 ^ 48) }
     {
         enthalpy_over(&Variables::over(self.p_kpa, s))
     }

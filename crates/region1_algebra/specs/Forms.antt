@@ -93,7 +93,9 @@ row_13 = decimal (pos 21841717175414) (minus 15)
 -- g_pi / tau, where u is 1 / tau and r is y / tau
 abbrev pub joined_volume : Fraction → Fraction → Fraction → Fraction → Fraction
 joined_volume x y u r =
-    row_13 +ℚ sum_over (λ t. value_of x y (pi_derivative_of t)) volume_down *ℚ u +ℚ sum_over (λ t. value_of x y (pi_derivative_over_y_of t)) volume_up *ℚ r
+    row_13
+    +ℚ sum_over (λ t. value_of x y (pi_derivative_of t)) volume_down *ℚ u
+    +ℚ sum_over (λ t. value_of x y (pi_derivative_over_y_of t)) volume_up *ℚ r
 
 -- g_tau without its terms of 0
 abbrev pub joined_heat : Fraction → Fraction → Fraction

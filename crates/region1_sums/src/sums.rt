@@ -17,8 +17,10 @@ use region1_terms::Variables;
 /// row 13: its coefficient is n12 - 1.222 n13.
 #[tactic(auto, unfolding(crate::specs::Derivatives::has_pi_derivative, region1_terms::specs::Monomial::fits))]
 pub fn down_sum(v: &Variables) -> Enc<56>
-    ensures holds { (t : Fraction) → SpanHolds v.now.span.lo v.now.span.hi t
-        → Holds 56 result.lo result.hi (sum_over (λ r. value_of (x_of v.now.pressure) (y_of t) (pi_derivative_of r)) volume_down) }
+    ensures holds { (t : Fraction) →
+        SpanHolds v.now.span.lo v.now.span.hi t →
+        Holds 56 result.lo result.hi
+        (sum_over (λ r. value_of (x_of v.now.pressure) (y_of t) (pi_derivative_of r)) volume_down) }
     ensures sized { SizedBy (total_size pi_derivative_of volume_down) (v.now.span.hi - v.now.span.lo) result.lo result.hi }
 {
     total(&for_terms!(t in [
@@ -47,8 +49,10 @@ pub fn down_sum(v: &Variables) -> Enc<56>
 /// -n I x^(I-1) y^(J-1) over the rows with I and J above 0, without row 13.
 #[tactic(auto, unfolding(crate::specs::Derivatives::has_pi_derivative_over_y, region1_terms::specs::Monomial::fits))]
 pub fn up_sum(v: &Variables) -> Enc<56>
-    ensures holds { (t : Fraction) → SpanHolds v.now.span.lo v.now.span.hi t
-        → Holds 56 result.lo result.hi (sum_over (λ r. value_of (x_of v.now.pressure) (y_of t) (pi_derivative_over_y_of r)) volume_up) }
+    ensures holds { (t : Fraction) →
+        SpanHolds v.now.span.lo v.now.span.hi t →
+        Holds 56 result.lo result.hi
+        (sum_over (λ r. value_of (x_of v.now.pressure) (y_of t) (pi_derivative_over_y_of r)) volume_up) }
     ensures sized { SizedBy (total_size pi_derivative_over_y_of volume_up) (v.now.span.hi - v.now.span.lo) result.lo result.hi }
 {
     total(&for_terms!(t in [
@@ -64,8 +68,10 @@ pub fn up_sum(v: &Variables) -> Enc<56>
 /// n x^I J y^(J-1) over the rows with J not 0.
 #[tactic(auto, unfolding(crate::specs::Derivatives::has_tau_derivative, region1_terms::specs::Monomial::fits))]
 pub fn heat_sum(v: &Variables) -> Enc<56>
-    ensures holds { (t : Fraction) → SpanHolds v.now.span.lo v.now.span.hi t
-        → Holds 56 result.lo result.hi (sum_over (λ r. value_of (x_of v.now.pressure) (y_of t) (tau_derivative_of r)) heat) }
+    ensures holds { (t : Fraction) →
+        SpanHolds v.now.span.lo v.now.span.hi t →
+        Holds 56 result.lo result.hi
+        (sum_over (λ r. value_of (x_of v.now.pressure) (y_of t) (tau_derivative_of r)) heat) }
     ensures sized { SizedBy (total_size tau_derivative_of heat) (v.now.span.hi - v.now.span.lo) result.lo result.hi }
 {
     total(&for_terms!(t in [

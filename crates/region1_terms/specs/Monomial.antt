@@ -29,7 +29,11 @@ coefficient_most m (pos e) k = m * 10 ^ e * 2 ^ k
 coefficient_most m (negsuc e) k = m * 2 ^ k / 10 ^ suc e + 1
 
 abbrev pub coefficient_size : Term → Size
-coefficient_size t = record { most = coefficient_most (unsigned_abs t.mantissa) t.exp10 (3 * t.i + y_shift t.j) + 4; base = 4 * parts; per = 0 }
+coefficient_size t = record {
+  most = coefficient_most (unsigned_abs t.mantissa) t.exp10 (3 * t.i + y_shift t.j) + 4;
+  base = 4 * parts;
+  per = 0;
+}
 
 -- the size of a power of a number from 0 to 1
 abbrev pub unit_power_size : ℕ → Size → Size

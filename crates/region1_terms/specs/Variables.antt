@@ -1,11 +1,19 @@
 -- What the enclosures of the reduced variables hold, and their sizes.
-use Rattle.std.specs.Prelude.{ℕ, ◌*◌, ◌^◌, ℤ, pos, ◌≤ℤ◌}
+use Rattle.std.specs.Prelude.{ℕ, ◌+◌, ◌-◌, ◌*◌, ◌^◌, ℤ, pos, ◌≤ℤ◌}
 use Rattle.std.proofs.Common.{lit<}
 use Rattle.number_model.specs.Fraction.{Fraction, ◌*ℚ◌, part, inverse}
 use Rattle.number_model.specs.Enclosure.{Holds, SpanHolds}
 use Rattle.water_model.specs.Water.{x_of, y_of}
 use Rattle.region1_algebra.specs.Forms.{u_of, r_of}
 use Rattle.enclosure_sizes.specs.Size.{Size, SizedBy, parts}
+
+-- the temperature t nanodegrees in nanokelvin
+abbrev pub nanokelvin_of : ℕ → ℕ
+nanokelvin_of t = 273150000000 + t
+
+-- 1000 y times it: y = (1386000000000000 - 1222 T) / (1000 T)
+abbrev pub rest_of : ℕ → ℕ
+rest_of t = 1386000000000000 - 1222 * nanokelvin_of t
 
 -- at p kPa and each temperature from lo to hi nanodegrees
 pub record VariablesHold (p lo hi : ℕ) (xl xh ul uh rl rh yl yh zl zh : ℤ) : Type 0 where

@@ -17,8 +17,10 @@ pub(crate) fn unit_power(e: Enc<56>, n: u32) -> Enc<56>
     requires most { n ≤ 64 }
     ensures low { pos 0 ≤ℤ result.lo }
     ensures high { result.hi ≤ℤ pos (2 ^ 56) }
-    ensures holds { (x : Fraction) → Holds 56 e.lo e.hi x → Holds 56 result.lo result.hi (power x n) }
-    ensures size { (s : Size) (d : ℕ) → SizedBy s d e.lo e.hi → SizedBy (unit_power_size n s) d result.lo result.hi }
+    ensures holds { (x : Fraction) →
+        Holds 56 e.lo e.hi x → Holds 56 result.lo result.hi (power x n) }
+    ensures size { (s : Size) (d : ℕ) →
+        SizedBy s d e.lo e.hi → SizedBy (unit_power_size n s) d result.lo result.hi }
 {
     if n == 0 {
         Enc::point(1 << 56)
@@ -35,8 +37,12 @@ fn raised_power(e: Enc<56>, n: u32) -> Enc<56>
     requires most { n ≤ 64 }
     ensures low { pos 0 ≤ℤ result.lo }
     ensures high { result.hi ≤ℤ pos (2 ^ 56) }
-    ensures holds { (x : Fraction) → Holds 56 e.lo e.hi x → Holds 56 result.lo result.hi (times_ℚ (power x n) (2 ^ 56) (2 ^ 32) (pow_pos 32)) }
-    ensures size { (s : Size) (d : ℕ) → SizedBy s d e.lo e.hi → SizedBy (up_size (2 ^ 24) (power_size (2 ^ 56) n s)) d result.lo result.hi }
+    ensures holds { (x : Fraction) →
+        Holds 56 e.lo e.hi x →
+        Holds 56 result.lo result.hi (times_ℚ (power x n) (2 ^ 56) (2 ^ 32) (pow_pos 32)) }
+    ensures size { (s : Size) (d : ℕ) →
+        SizedBy s d e.lo e.hi →
+        SizedBy (up_size (2 ^ 24) (power_size (2 ^ 56) n s)) d result.lo result.hi }
 {
     let power: Enc<32> = e.powi(n).relabel();
     power.scale_to()
@@ -50,8 +56,11 @@ pub(crate) fn unit_product(a: Enc<56>, b: Enc<56>) -> Enc<56>
     requires b_high { b.hi ≤ℤ pos (2 ^ 56) }
     ensures low { neg_ℤ (pos (2 ^ 56)) ≤ℤ result.lo }
     ensures high { result.hi ≤ℤ pos (2 ^ 56) }
-    ensures holds { (x y : Fraction) → Holds 56 a.lo a.hi x → Holds 56 b.lo b.hi y → Holds 56 result.lo result.hi (x *ℚ y) }
-    ensures size { (s t : Size) (d : ℕ) → SizedBy s d a.lo a.hi → SizedBy t d b.lo b.hi → SizedBy (product_size (2 ^ 56) s t) d result.lo result.hi }
+    ensures holds { (x y : Fraction) →
+        Holds 56 a.lo a.hi x → Holds 56 b.lo b.hi y → Holds 56 result.lo result.hi (x *ℚ y) }
+    ensures size { (s t : Size) (d : ℕ) →
+        SizedBy s d a.lo a.hi → SizedBy t d b.lo b.hi →
+        SizedBy (product_size (2 ^ 56) s t) d result.lo result.hi }
 {
     a.mul(b)
 }
@@ -62,8 +71,11 @@ pub(crate) fn scaled_product(c: Enc<56>, b: Enc<56>) -> Enc<56>
     requires c_high { c.hi ≤ℤ pos (2 ^ 62 - 1) }
     requires b_low { neg_ℤ (pos (2 ^ 56)) ≤ℤ b.lo }
     requires b_high { b.hi ≤ℤ pos (2 ^ 56) }
-    ensures holds { (x y : Fraction) → Holds 56 c.lo c.hi x → Holds 56 b.lo b.hi y → Holds 56 result.lo result.hi (x *ℚ y) }
-    ensures size { (s t : Size) (d : ℕ) → SizedBy s d c.lo c.hi → SizedBy t d b.lo b.hi → SizedBy (product_size (2 ^ 56) s t) d result.lo result.hi }
+    ensures holds { (x y : Fraction) →
+        Holds 56 c.lo c.hi x → Holds 56 b.lo b.hi y → Holds 56 result.lo result.hi (x *ℚ y) }
+    ensures size { (s t : Size) (d : ℕ) →
+        SizedBy s d c.lo c.hi → SizedBy t d b.lo b.hi →
+        SizedBy (product_size (2 ^ 56) s t) d result.lo result.hi }
 {
     c.mul(b)
 }
@@ -91,8 +103,10 @@ impl Variables {
         requires high { j ≤ℤ pos 48 }
         ensures low { pos 0 ≤ℤ result.lo }
         ensures high { result.hi ≤ℤ pos (2 ^ 56) }
-        ensures holds { (t : Fraction) → SpanHolds self.now.span.lo self.now.span.hi t
-            → Holds 56 result.lo result.hi (times_ℚ (whole_power (y_of t) j) (2 ^ 56) (2 ^ y_shift j) (pow_pos (y_shift j))) }
+        ensures holds { (t : Fraction) →
+            SpanHolds self.now.span.lo self.now.span.hi t →
+            Holds 56 result.lo result.hi
+            (times_ℚ (whole_power (y_of t) j) (2 ^ 56) (2 ^ y_shift j) (pow_pos (y_shift j))) }
         ensures size { SizedBy (y_power_size j) (self.now.span.hi - self.now.span.lo) result.lo result.hi }
     {
         let n = u32::from(j.unsigned_abs());

@@ -1,6 +1,6 @@
 ghost use Rattle.std.specs.Prelude.{◌≡◌, ◌+◌, ◌-◌, ◌*◌, ◌≤◌, pos, ◌≤ℤ◌};
 ghost use Rattle.interval_num.specs.Ends.{quotient_floor, quotient_ceil};
-ghost use Rattle.region1_terms.specs.Variables.{VariablesHold, VariablesSized};
+ghost use Rattle.region1_terms.specs.Variables.{VariablesHold, VariablesSized, nanokelvin_of, rest_of};
 
 use interval_num::{Enc, Span};
 
@@ -16,9 +16,11 @@ pub struct Variables {
     pub y_over_tau: Enc<56>,
     pub y_quarter: Enc<56>,
     pub inverse_y: Enc<56>,
-    pub ghost holds: { VariablesHold pressure span.lo span.hi x_eighth.lo x_eighth.hi inverse_tau.lo inverse_tau.hi y_over_tau.lo y_over_tau.hi
+    pub ghost holds: { VariablesHold pressure span.lo span.hi
+        x_eighth.lo x_eighth.hi inverse_tau.lo inverse_tau.hi y_over_tau.lo y_over_tau.hi
         y_quarter.lo y_quarter.hi inverse_y.lo inverse_y.hi },
-    pub ghost sized: { VariablesSized (span.hi - span.lo) x_eighth.lo x_eighth.hi inverse_tau.lo inverse_tau.hi y_over_tau.lo y_over_tau.hi
+    pub ghost sized: { VariablesSized (span.hi - span.lo)
+        x_eighth.lo x_eighth.hi inverse_tau.lo inverse_tau.hi y_over_tau.lo y_over_tau.hi
         y_quarter.lo y_quarter.hi inverse_y.lo inverse_y.hi },
 }
 
@@ -54,7 +56,7 @@ fn hull(low: Enc<56>, high: Enc<56>) -> Enc<56>
 // the temperature in nanokelvin
 fn nanokelvin(t: u64) -> i128
     requires { t ≤ 180000000000 }
-    ensures { result ≡ pos (273150000000 + t) }
+    ensures { result ≡ pos (nanokelvin_of t) }
 {
     273_150_000_000 + i128::from(t)
 }
@@ -72,8 +74,8 @@ fn x_eighth_at(p: u32) -> Enc<56>
 // 1 / tau at t nanodegrees
 fn inverse_tau_at(t: u64) -> Enc<56>
     requires { t ≤ 180000000000 }
-    ensures lo { result.lo ≡ quotient_floor 56 (pos (273150000000 + t)) (pos 1386000000000) }
-    ensures hi { result.hi ≡ quotient_ceil 56 (pos (273150000000 + t)) (pos 1386000000000) }
+    ensures lo { result.lo ≡ quotient_floor 56 (pos (nanokelvin_of t)) (pos 1386000000000) }
+    ensures hi { result.hi ≡ quotient_ceil 56 (pos (nanokelvin_of t)) (pos 1386000000000) }
 {
     Enc::of_ratio(nanokelvin(t), 1_386_000_000_000)
 }
@@ -81,8 +83,8 @@ fn inverse_tau_at(t: u64) -> Enc<56>
 // y / tau at t nanodegrees
 fn y_over_tau_at(t: u64) -> Enc<56>
     requires { t ≤ 180000000000 }
-    ensures lo { result.lo ≡ quotient_floor 56 (pos (1386000000000000 - 1222 * (273150000000 + t))) (pos 1386000000000000) }
-    ensures hi { result.hi ≡ quotient_ceil 56 (pos (1386000000000000 - 1222 * (273150000000 + t))) (pos 1386000000000000) }
+    ensures lo { result.lo ≡ quotient_floor 56 (pos (rest_of t)) (pos 1386000000000000) }
+    ensures hi { result.hi ≡ quotient_ceil 56 (pos (rest_of t)) (pos 1386000000000000) }
 {
     Enc::of_ratio(
         1_386_000_000_000_000 - 1_222 * nanokelvin(t),
@@ -93,8 +95,8 @@ fn y_over_tau_at(t: u64) -> Enc<56>
 // y / 4 at t nanodegrees
 fn y_quarter_at(t: u64) -> Enc<56>
     requires { t ≤ 180000000000 }
-    ensures lo { result.lo ≡ quotient_floor 56 (pos (1386000000000000 - 1222 * (273150000000 + t))) (pos (4000 * (273150000000 + t))) }
-    ensures hi { result.hi ≡ quotient_ceil 56 (pos (1386000000000000 - 1222 * (273150000000 + t))) (pos (4000 * (273150000000 + t))) }
+    ensures lo { result.lo ≡ quotient_floor 56 (pos (rest_of t)) (pos (4000 * nanokelvin_of t)) }
+    ensures hi { result.hi ≡ quotient_ceil 56 (pos (rest_of t)) (pos (4000 * nanokelvin_of t)) }
 {
     let kelvin = nanokelvin(t);
     Enc::of_ratio(1_386_000_000_000_000 - 1_222 * kelvin, 4_000 * kelvin)
@@ -103,8 +105,8 @@ fn y_quarter_at(t: u64) -> Enc<56>
 // 1 / y at t nanodegrees
 fn inverse_y_at(t: u64) -> Enc<56>
     requires { t ≤ 180000000000 }
-    ensures lo { result.lo ≡ quotient_floor 56 (pos (1000 * (273150000000 + t))) (pos (1386000000000000 - 1222 * (273150000000 + t))) }
-    ensures hi { result.hi ≡ quotient_ceil 56 (pos (1000 * (273150000000 + t))) (pos (1386000000000000 - 1222 * (273150000000 + t))) }
+    ensures lo { result.lo ≡ quotient_floor 56 (pos (1000 * nanokelvin_of t)) (pos (rest_of t)) }
+    ensures hi { result.hi ≡ quotient_ceil 56 (pos (1000 * nanokelvin_of t)) (pos (rest_of t)) }
 {
     let kelvin = nanokelvin(t);
     Enc::of_ratio(1_000 * kelvin, 1_386_000_000_000_000 - 1_222 * kelvin)

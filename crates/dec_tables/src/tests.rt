@@ -1,0 +1,59 @@
+use crate::{Term, enclose, region1_table};
+use interval_num::Enc;
+
+#[test]
+fn first_and_last_rows(rt: HostRuntime) {
+    let table = region1_table();
+    let first = Term {
+        i: 0,
+        j: -2,
+        mantissa: 14_632_971_213_167,
+        exp10: -14,
+    };
+    let last = Term {
+        i: 32,
+        j: -41,
+        mantissa: -93_537_087_292_458,
+        exp10: -39,
+    };
+    assert_eq!(rt; table.term(0), first);
+    assert_eq!(rt; table.term(33), last);
+}
+
+#[test]
+fn enclosed_by_hand(rt: HostRuntime) {
+    // -0.35 * 2 * 16 = -11.2
+    let negative = Term {
+        i: 0,
+        j: 0,
+        mantissa: -35,
+        exp10: -2,
+    };
+    assert_eq!(rt; enclose::<4>(&negative, 1), Enc::<4>::of_ends(-12, -11));
+
+    // 3 * 10^2 * 2 = 600
+    let whole = Term {
+        i: 0,
+        j: 0,
+        mantissa: 3,
+        exp10: 2,
+    };
+    assert_eq!(rt; enclose::<0>(&whole, 1), Enc::<0>::of_ends(600, 600));
+
+    // below every unit
+    let tiny = Term {
+        i: 0,
+        j: 0,
+        mantissa: 7,
+        exp10: -128,
+    };
+    assert_eq!(rt; enclose::<56>(&tiny, 96), Enc::<56>::of_ends(0, 1));
+
+    let zero = Term {
+        i: 0,
+        j: 0,
+        mantissa: 0,
+        exp10: 127,
+    };
+    assert_eq!(rt; enclose::<56>(&zero, 96), Enc::<56>::of_ends(0, 0));
+}
