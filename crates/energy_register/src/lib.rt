@@ -3,6 +3,9 @@
 
 ghost use Rattle.std.specs.Prelude.{◌≡◌, ℕ, ◌+◌, ◌*◌, ◌≤◌, pos, nat_abs, IfOk, IfErr, IsOk, ◌↔◌};
 
+mod display;
+
+pub use display::digits_text;
 use thiserror::Error;
 
 /// The most pulses that a register counts, 10^15.

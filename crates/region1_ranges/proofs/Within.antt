@@ -97,7 +97,6 @@ module _ (p : ℕ) (low : 1100 ≤ p) (high : p ≤ 4000) where
   volume_between : (n : ℕ) → n ≤ 180000000000 → Between volume_ends (volume_factor *ℚ joined_volume (x_of p) (y_of (nanodegrees n)) (u_of (nanodegrees n)) (r_of (nanodegrees n)))
   unfolding volume_ends
   volume_between n top =
-      let t = nanodegrees n in
       let s = nano_in 0 180000000000 n (omega arith) top in
       let q = q_between 0 180000000000 (omega arith) (lit≤ tt) (nanodegrees n) s in
       let z = z_between 0 180000000000 (omega arith) (lit≤ tt) (nanodegrees n) s in

@@ -66,7 +66,7 @@ each_holds p lo hi f c s ts es h =
 sized_from : (p lo hi : ℕ) (f : Term → Term) (ts : List Term) (es : List (Enc 56)) (L H : ℤ) (m a b : ℕ) → Sized m a b (hi - lo) L H → EvaluatesEach p lo hi f ts es
     → Sized (m + (total_size f ts).most) (a + (total_size f ts).base) (b + (total_size f ts).per) (hi - lo) (fold (λ s e. s +ℤ e.lo) L es) (fold (λ s e. s +ℤ e.hi) H es)
 unfolding total_size
-sized_from p lo hi f [] [] L H m a b z h = rw (add-zero, add-zero, add-zero) z
+sized_from p lo hi f [] [] L H m a b z h = rw (add-zero m, add-zero a, add-zero b) z
 sized_from p lo hi f [] (e ∷ es) L H m a b z h = absurd h
 sized_from p lo hi f (t ∷ ts) [] L H m a b z h = absurd h
 sized_from p lo hi f (t ∷ ts) (e ∷ es) L H m a b z h =

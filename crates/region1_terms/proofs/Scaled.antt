@@ -16,7 +16,7 @@ use Rattle.region1_terms.specs.Variables.{y_size, z_size}
 use Rattle.region1_terms.specs.Monomial.{y_shift, unit_power_size, y_power_size}
 
 pow-mul : (a b n : ℕ) → a ^ (b * n) ≡ (a ^ b) ^ n
-pow-mul a b zero = rw (mul-zero, pow-zero) (sym (pow-zero (a ^ b)))
+pow-mul a b zero = rw mul-zero (pow-zero a ∙ sym (pow-zero (a ^ b)))
 pow-mul a b (suc n) = rw (mul-suc, pow-suc) (pow-add a (b * n) b ∙ ap (λ t. t * a ^ b) (pow-mul a b n))
 
 -- ---- one power

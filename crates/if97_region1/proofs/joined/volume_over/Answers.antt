@@ -12,7 +12,6 @@ use Rattle.if97_region1.proofs.joined.volume_over.Goals as goal
 
 pub mul-requires : goal.mul-requires
 mul-requires c =
-    let d = c.args.v.now.span.hi - c.args.v.now.span.lo in
     let factor = rw (← c.of_ratio.ensures.lo, ← c.of_ratio.ensures.hi) at (volume_factor_sized (c.args.v.now.span.hi - c.args.v.now.span.lo)) in
     (lit< tt, sized_products _ _ _ _ _ _ _ _ _ _ _ _ c.joined.result.ordered c.of_ratio.result.ordered c.joined.ensures.sized factor volume_product)
 

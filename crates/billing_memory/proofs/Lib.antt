@@ -1,0 +1,3 @@
+mod TextLemmas
+mod LatestLemmas
+pub mod RuleLemmas
