@@ -9,8 +9,8 @@ pub enum Mark {
     Put { len: usize },
 }
 
-#[tactic(auto, using(crate::proofs::ToldLemmas::put_told))]
 /// Adds a put of these bytes to a trace that has room for it.
+#[tactic(auto, using(crate::proofs::ToldLemmas::put_told))]
 pub fn record_put(marks: &mut Vec<Mark>, output: &mut Vec<u8>, bytes: &[u8])
     requires whole { bytes_by marks.old.items ≡ length output.old.items }
     requires mark_room { vec_len marks.old < vec_capacity marks.old }
