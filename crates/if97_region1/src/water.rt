@@ -6,9 +6,11 @@ ghost use Rattle.water_model.specs.Water.{volume, enthalpy};
 use crate::joined::{enthalpy_over, volume_over};
 use interval_num::{Enc, Span};
 use region1_terms::Variables;
+use thiserror::Error;
 
 /// A pressure outside 1,100 to 4,000 kPa.
-#[derive(Clone, Copy, Debug, PartialEq, Eq)]
+#[derive(Clone, Copy, Debug, PartialEq, Eq, Error)]
+#[error("{p_kpa} kPa is outside 1100 to 4000 kPa")]
 pub struct Pressure {
     pub p_kpa: u32,
 }
