@@ -15,7 +15,8 @@ impl<'a, R: Files + Print> FileBoard<'a, R> {
 
     /// The board with its memory in the file at `path`, and the standard output of this runtime.
     pub fn at(rt: &'a R, path: &'a str) -> FileBoard<'a, R>
-        ensures { result.output_faults ≡ 0 }
+        ensures path { result.path.now ≡ path.now }
+        ensures output_faults { result.output_faults ≡ 0 }
     {
         FileBoard {
             rt,
