@@ -1,7 +1,8 @@
 -- One more output line at the end, and how many there are.
 use Rattle.std.proofs.Common.{◌≡◌, ℕ, ◌+◌, ◌≤◌, List, [], ◌∷◌, ◌++◌, length, drop, refl, sym, subst, arith}
 use Rattle.metering_model.specs.Events.{Kept}
-use Rattle.metering_model.specs.Records.{MeterRecord, Settings}
+use Rattle.metering_model.specs.Settings.{Settings}
+use Rattle.metering_model.specs.Records.{MeterRecord}
 use Rattle.trace_model.specs.Output.{OutputLine}
 use Rattle.journal_model.specs.Pairing.{Answers, Pairs}
 

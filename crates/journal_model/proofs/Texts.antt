@@ -3,7 +3,8 @@ use Rattle.std.proofs.Common.{◌≡◌, ℕ, ◌+◌, ◌<◌, ◌^◌, ◌%◌
 use Rattle.std.specs.Prelude.{nat_abs}
 use Rattle.std.specs.Fmt.{decimal, signed_decimal}
 use Rattle.std.proofs.lemmas.Fmt.{decimal_by_steps_wide}
-use Rattle.metering_model.specs.Records.{MeterRecord, Settings, litres_of}
+use Rattle.metering_model.specs.Settings.{Settings}
+use Rattle.metering_model.specs.Records.{MeterRecord, litres_of}
 use Rattle.trace_model.specs.Output.{ends_line}
 use Rattle.trace_model.proofs.Lines.{no_lf, no_lf-append, no_lf_above, no_lf_both, ends_line-append_lf, front_of_line}
 use Rattle.journal_model.specs.Texts.{ok_text, shown}

@@ -1,12 +1,16 @@
 -- Why a line of a script is refused.
-use Rattle.std.specs.Prelude.{ℕ, ◌+◌, cond, nat_lt, nat_le, List, length, Option, None, Some, Result, Ok, Err}
-use Rattle.metering_model.specs.Events.{Event, Pulse}
+use Rattle.std.specs.Prelude.{ℕ, ◌+◌, ◌==◌, cond, nat_lt, nat_le, List, length, Option, None, Some, Result, Ok, Err}
+use Rattle.metering_model.specs.Events.{Event, Sample, Pulse, Date}
 use Rattle.metering_model.specs.Records.{MeterRecord}
 use Rattle.script_model.specs.Grammar.{Line, Metering, line_of, max_pulses}
 
 pub data Fault : Type 0 where
   -- the place of the first wrong, missing or extra word
   Grammar : (at : ℕ) → Fault
+  -- the events of the record, which is full
+  EventsFull : (seq : ℕ) → Fault
+  -- the day in force, which is after the date
+  DateBack : (in_force : ℕ) → Fault
   -- the pulses that the register would then have
   PulsesFull : (sum : ℕ) → Fault
   TooLong : Fault
@@ -18,9 +22,18 @@ max_lines = 1000000
 abbrev pub max_line_len : ℕ
 max_line_len = 120
 
--- an event that the record in force does not take
+-- the most events of a record
+abbrev pub max_events : ℕ
+max_events = 1000000000000000000
+
+abbrev pub kind_fault : MeterRecord → Event → Option Fault
+kind_fault r (Sample flow ret) = None
+kind_fault r (Pulse n) = cond (nat_lt max_pulses (r.register.pulses + n)) (Some (PulsesFull (r.register.pulses + n))) None
+kind_fault r (Date day) = cond (nat_lt day r.day) (Some (DateBack r.day)) None
+
+-- why the record in force does not take an event
 abbrev pub event_fault : MeterRecord → Event → Option Fault
-event_fault r (Pulse n) = cond (nat_lt max_pulses (r.register.pulses + n)) (Some (PulsesFull (r.register.pulses + n))) None
+event_fault r event = cond (r.seq == max_events) (Some (EventsFull r.seq)) (kind_fault r event)
 
 abbrev pub said_fault : MeterRecord → Result Line ℕ → Option Fault
 said_fault r (Ok (Metering event)) = event_fault r event

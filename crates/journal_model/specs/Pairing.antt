@@ -1,7 +1,8 @@
 -- Output lines answer script lines, one by one, and the kept events are read off the pairs.
 use Rattle.std.specs.Prelude.{◌≡◌, ℕ, ◌+◌, ℤ, List, [], ◌∷◌, ◌++◌, length, None, Some, Ok, slice_get}
 use Rattle.metering_model.specs.Events.{Event, Kept}
-use Rattle.metering_model.specs.Records.{MeterRecord, Settings, record_after}
+use Rattle.metering_model.specs.Settings.{Settings}
+use Rattle.metering_model.specs.Records.{MeterRecord, record_after}
 use Rattle.trace_model.specs.Output.{OutputLine}
 use Rattle.script_model.specs.Grammar.{Line, Metering, line_of}
 use Rattle.journal_model.specs.Faults.{fault_of}
@@ -12,7 +13,7 @@ pub record Acknowledges (c : Settings) (o : MeterRecord) (old : List Kept) (even
   pub energy_mj : ℤ
   pub bound_mj : ℕ
   pub kept : new ≡ old ++ record { event = event; energy_mj = energy_mj; bound_mj = bound_mj } ∷ []
-  pub text : output.text ≡ ok_text c (record_after o new)
+  pub text : output.text ≡ ok_text c (record_after c o new)
   pub quiet : output.segment ≡ []
 
 -- how an output line answers what a line says, where the events kept go from old to new
@@ -21,7 +22,7 @@ Replies c o old (Metering event) output new = Acknowledges c o old event output 
 
 -- the line after n lines is not refused, and has this output line
 pub record Answers (c : Settings) (o : MeterRecord) (n : ℕ) (old : List Kept) (line : List ℕ) (output : OutputLine) (new : List Kept) : Type 0 where
-  pub taken : fault_of (record_after o old) n line ≡ None
+  pub taken : fault_of (record_after c o old) n line ≡ None
   pub said : Line
   pub says : line_of line ≡ Ok said
   pub reply : Replies c o old said output new
@@ -34,4 +35,4 @@ Pairs c o n old (l ∷ ls) (a ∷ more) new = (mid : List Kept) × Answers c o n
 
 -- whatever output lines pair with the first lines, the next line is not refused
 pub record NoneRefused (c : Settings) (o : MeterRecord) (lines : List (List ℕ)) : Type 0 where
-  pub taken : (outputs : List OutputLine) (kept : List Kept) (line : List ℕ) → Pairs c o 0 [] lines outputs kept → slice_get lines (length outputs) ≡ Some line → fault_of (record_after o kept) (length outputs) line ≡ None
+  pub taken : (outputs : List OutputLine) (kept : List Kept) (line : List ℕ) → Pairs c o 0 [] lines outputs kept → slice_get lines (length outputs) ≡ Some line → fault_of (record_after c o kept) (length outputs) line ≡ None

@@ -1,7 +1,8 @@
 -- The texts of output lines.
 use Rattle.std.specs.Prelude.{ℕ, List, ◌++◌, codes}
 use Rattle.std.specs.Fmt.{decimal, signed_decimal}
-use Rattle.metering_model.specs.Records.{MeterRecord, Settings, litres_of}
+use Rattle.metering_model.specs.Settings.{Settings}
+use Rattle.metering_model.specs.Records.{MeterRecord, litres_of}
 
 -- `K VOL E B`: the number of events, litres, and the energy and its bound in millijoules
 abbrev pub shown : Settings → MeterRecord → List ℕ

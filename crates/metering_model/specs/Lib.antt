@@ -1,2 +1,5 @@
 pub mod Events
+pub mod Settings
+pub mod Counting
 pub mod Records
+pub mod Integral

@@ -1,9 +1,10 @@
 -- What a line of a script says, or the place of its first wrong, missing or extra word, from 0.
 use Rattle.std.specs.Prelude.{ℕ, cond, nat_eq, List, [], ◌∷◌, codes, Option, None, Some, Result, Ok, Err}
 use Rattle.std.specs.Cmp.Lexicographic.{pointwise}
-use Rattle.metering_model.specs.Events.{Event, Pulse}
+use Rattle.metering_model.specs.Events.{Event, Sample, Pulse, Date}
 use Rattle.script_model.specs.Lines.{words_of}
 use Rattle.script_model.specs.Numbers.{number_in}
+use Rattle.script_model.specs.Dates.{date_in}
 
 pub data Line : Type 0 where
   Metering : (event : Event) → Line
@@ -29,18 +30,37 @@ abbrev pub end_at : {A : Type 0} → ℕ → A → List (List ℕ) → Result A 
 end_at place x [] = Ok x
 end_at place x (word ∷ words) = Err place
 
+-- the greatest sample, in microohms
+abbrev pub max_sample : ℕ
+max_sample = 4294967295
+
 -- the most pulses of one line, and of a register
 abbrev pub max_pulses : ℕ
 max_pulses = 1000000000000000
+
+-- `sample RF RR`
+abbrev pub sample_line : List (List ℕ) → Result Line ℕ
+sample_line words =
+    word_at 1 (number_in 0 max_sample) words >>= λ rf. word_at 2 (number_in 0 max_sample) rf.1 >>= λ rr. end_at 3 (Metering (Sample rf.0 rr.0)) rr.1
 
 -- `pulse N`
 abbrev pub pulse_line : List (List ℕ) → Result Line ℕ
 pulse_line words = word_at 1 (number_in 1 max_pulses) words >>= λ n. end_at 2 (Metering (Pulse n.0)) n.1
 
+-- `date YYYY-MM-DD`
+abbrev pub date_line : List (List ℕ) → Result Line ℕ
+date_line words = word_at 1 date_in words >>= λ day. end_at 2 (Metering (Date day.0)) day.1
+
 -- by the first word
+abbrev pub line_named : List ℕ → List (List ℕ) → Result Line ℕ
+line_named name words =
+    cond (pointwise nat_eq name (codes "sample")) (sample_line words)
+    (cond (pointwise nat_eq name (codes "pulse")) (pulse_line words)
+    (cond (pointwise nat_eq name (codes "date")) (date_line words) (Err 0)))
+
 abbrev pub line_of_words : List (List ℕ) → Result Line ℕ
 line_of_words [] = Err 0
-line_of_words (name ∷ words) = cond (pointwise nat_eq name (codes "pulse")) (pulse_line words) (Err 0)
+line_of_words (name ∷ words) = line_named name words
 
 abbrev pub line_of : List ℕ → Result Line ℕ
 line_of line = line_of_words (words_of line)
