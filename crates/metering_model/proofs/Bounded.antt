@@ -1,5 +1,5 @@
 -- What events add up to is as near to the exact integral as their bounds add up to.
-use Rattle.std.proofs.Common.{◌≡◌, ℕ, ◌+◌, ◌*◌, ◌≤◌, ℤ, pos, ◌+ℤ◌, ◌-ℤ◌, ◌≤ℤ◌, List, [], ◌∷◌, ◌++◌, length, sum_by, Option, None, Some, refl, sym, ap, ◌∙◌, subst, arith}
+use Rattle.std.proofs.Common.{◌≡◌, ℕ, ◌+◌, ◌*◌, ◌≤◌, ℤ, pos, ◌+ℤ◌, ◌-ℤ◌, ◌≤ℤ◌, List, [], ◌∷◌, ◌++◌, length, sum_by, Option, None, Some, refl, sym, ap, ◌∙◌, subst, arith, Bool, true, false, cond, ◌-◌}
 use Rattle.std.specs.List.{AllByRecursion}
 use Rattle.std.proofs.lemmas.Int.{ints}
 use Rattle.std.proofs.lemmas.List.Sums.{sum_by-cons}
@@ -10,11 +10,16 @@ use Rattle.number_model.proofs.Enclosures.{Holds-add}
 use Rattle.number_model.proofs.Order.{≤ℚ_trans}
 use Rattle.water_model.specs.Water.{sum_over}
 use Rattle.heat_model.specs.Heat.{LiesBetween}
-use Rattle.metering_model.specs.Events.{Kept, Placed, placed, placed_after}
+use Rattle.metering_model.specs.Events.{Kept, Placed, placed, placed_after, Event, Sample, Pulse, Date}
 use Rattle.metering_model.specs.Settings.{Settings}
-use Rattle.metering_model.specs.Counting.{Counted}
-use Rattle.metering_model.specs.Records.{MeterRecord, counted_at, energy_in, bound_in}
-use Rattle.metering_model.specs.Integral.{Temps, energy_or_none, IsChoiceOf, IsChoice, exact_integral, litres_or_none, IsNear, Fits, AddsBy, AllFit, IsBounded}
+use Rattle.metering_model.specs.Counting.{Counted, counted_by, counts}
+use Rattle.metering_model.specs.Records.{MeterRecord, counted_at, energy_in, bound_in, samples_after}
+use Rattle.metering_model.specs.Integral.{Temps, energy_or_none, IsChoiceOf, IsChoice, exact_integral, litres_or_none, IsNear, Fits, AddsBy, AllFit, IsBounded, FitsWithMargin, AllFitWithMargin, counted_litres}
+use native.Mathlib.Nat.{mul-le-mul_left}
+use Rattle.platinum_model.specs.Element.{Element}
+use Rattle.platinum_model.specs.Sample.{IsInRange, AreCellEnds}
+use Rattle.platinum_model.proofs.Cells.{IsSteep, AreCellEnds-width}
+use Rattle.metering_model.proofs.Counting.{counts-is}
 
 -- ---- sums of what is near
 as_holds : (lo hi : ℤ) (x : Fraction) → LiesBetween lo hi x → Holds 0 lo hi x
@@ -99,3 +104,55 @@ all_bounded c o choice ks fit chosen =
       near = subst (λ b. IsNear (energy_in ks) (pos b) (exact_integral c o choice ks)) (sum_by-kept [] ks) (sum_near value bound [] ks each);
       cap = omega (arith, sum_by-kept [] ks, sum_by-below bound (λ (e : Placed). 2000 * litres e) (placed ks) caps, sum_by-times litres 2000 (placed ks));
     }
+
+-- ---- the finer bound, where cells are narrow
+-- each cell of a sample in range is at most 2,800 nanodegrees wide
+abbrev pub HasNarrowCells : Element → Type 0
+HasNarrowCells e = (r lo hi : ℕ) → IsInRange e r → AreCellEnds e r lo hi → hi ≤ lo + 2800
+
+pub narrow-steep : (e : Element) → IsSteep e → HasNarrowCells e
+narrow-steep e steep r lo hi range ends = AreCellEnds-width e r lo hi steep range ends
+
+-- the samples of what was counted are in range
+abbrev pub AreInRange : Settings → Option Counted → Type 0
+AreInRange c None = Unit {0}
+AreInRange c (Some k) = IsInRange c.flow k.flow × IsInRange c.ret k.ret
+
+in_range-cond : (c : Settings) (k : Counted) (b : Bool) → (b ≡ true → AreInRange c (Some k)) → AreInRange c (cond b (Some k) None)
+in_range-cond c k true inside = inside refl
+in_range-cond c k false inside = tt
+
+pub counted-in_range : (c : Settings) (s : Option (ℕ × ℕ)) (event : Event) → AreInRange c (counted_by c s event)
+counted-in_range c None event = tt
+counted-in_range c (Some s) (Sample flow ret) = tt
+counted-in_range c (Some s) (Date day) = tt
+counted-in_range c (Some s) (Pulse n) =
+    in_range-cond c (record { flow = s.0; ret = s.1; litres = n * c.litres_per_pulse }) (counts c s.0 s.1)
+    (λ h. let pair = counts-is c s.0 s.1 h in (pair.temps.flow_in_range, pair.temps.return_in_range))
+
+-- 12 b ≤ litres (15,600 + 2,800 + 2,800), so that at most 600 mJ a litre are beyond the margin
+margin : (b l f g : ℕ) → f ≤ 2800 → g ≤ 2800 → 12 * b ≤ l * (15600 + f + g) → b ≤ 1800 * l
+margin b l f g flow ret narrow =
+    let wide : l * (15600 + f + g) ≤ l * 21600 = mul-le-mul_left l (omega arith) in
+    omega arith
+
+finer-one : (c : Settings) (k : Option Counted) (e : ℤ) (b : ℕ) (t : Temps) → HasNarrowCells c.flow → HasNarrowCells c.ret → AreInRange c k → AddsBy (FitsWithMargin c) k e b → IsChoiceOf c k t → IsNear e (pos (600 * litres_or_none k)) (energy_or_none c k t)
+finer-one c None e b t flow ret range adds choice = rw adds.0 near-none
+finer-one c (Some k) e b t flow ret range adds choice =
+    let f : adds.flow_hi ≤ adds.flow_lo + 2800 = flow k.flow adds.flow_lo adds.flow_hi range.0 adds.flow_ends in
+    let g : adds.return_hi ≤ adds.return_lo + 2800 = ret k.ret adds.return_lo adds.return_hi range.1 adds.return_ends in
+    let high : b ≤ 1800 * k.litres = margin b k.litres (adds.flow_hi - adds.flow_lo) (adds.return_hi - adds.return_lo) (omega arith) (omega arith) adds.narrow in
+    let less : (pos b -ℤ pos (1200 * k.litres)) ≤ℤ pos (600 * k.litres) = omega (arith, ints) in
+    near-wider e (pos b -ℤ pos (1200 * k.litres)) (pos (600 * k.litres)) (energy_or_none c (Some k) t) less (adds.nearer t choice)
+
+pub all_finer : (c : Settings) (o : MeterRecord) (choice : ℕ → Temps) (ks : List Kept) → HasNarrowCells c.flow → HasNarrowCells c.ret → AllFitWithMargin c o ks → IsChoice c o choice ks
+    → IsNear (energy_in ks) (pos (600 * counted_litres c o ks)) (exact_integral c o choice ks)
+all_finer c o choice ks flow ret fit chosen =
+    let Adds = λ (e : Placed). AddsBy (FitsWithMargin c) (counted_at c o e) e.kept.energy_mj e.kept.bound_mj in
+    let Chosen = λ (e : Placed). IsChoiceOf c (counted_at c o e) (choice (length e.before)) in
+    let value = λ (e : Placed). energy_or_none c (counted_at c o e) (choice (length e.before)) in
+    let litres = λ (e : Placed). litres_or_none (counted_at c o e) in
+    let each : AllByRecursion (λ e. IsNear e.kept.energy_mj (pos (600 * litres e)) (value e)) (placed ks) =
+    all-both Adds Chosen (λ (e : Placed). IsNear e.kept.energy_mj (pos (600 * litres e)) (value e)) (placed ks)
+    (λ e. finer-one c (counted_at c o e) e.kept.energy_mj e.kept.bound_mj (choice (length e.before)) flow ret (counted-in_range c (samples_after o.samples e.before) e.kept.event)) fit chosen in
+    subst (λ d. IsNear (energy_in ks) (pos d) (exact_integral c o choice ks)) (sum_by-times litres 600 (placed ks)) (sum_near value (λ (e : Placed). 600 * litres e) [] ks each)
