@@ -3,22 +3,22 @@ use Rattle.std.proofs.Common.{◌≡◌, ℕ, ◌+◌, ◌*◌, ◌≤◌, ℤ, 
 use Rattle.std.specs.List.{AllByRecursion}
 use Rattle.std.proofs.lemmas.Int.{ints}
 use Rattle.std.proofs.lemmas.List.Sums.{sum_by-cons}
+use native.Mathlib.Nat.{mul-le-mul_left}
 use lib.Signed.{≤ℤ_refl}
 use Rattle.number_model.specs.Fraction.{Fraction, ◌+ℚ◌, whole}
 use Rattle.number_model.specs.Enclosure.{Holds}
 use Rattle.number_model.proofs.Enclosures.{Holds-add}
 use Rattle.number_model.proofs.Order.{≤ℚ_trans}
+use Rattle.platinum_model.specs.Element.{Element}
+use Rattle.platinum_model.specs.Sample.{IsInRange, AreCellEnds}
+use Rattle.platinum_model.proofs.Cells.{IsSteep, AreCellEnds-width}
 use Rattle.water_model.specs.Water.{sum_over}
 use Rattle.heat_model.specs.Heat.{LiesBetween}
-use Rattle.metering_model.specs.Events.{Kept, Placed, placed, placed_after, Event, Sample, Pulse, Date}
+use Rattle.metering_model.specs.Events.{Event, Sample, Pulse, Date, Kept, Placed, placed, placed_after}
 use Rattle.metering_model.specs.Settings.{Settings}
 use Rattle.metering_model.specs.Counting.{Counted, counted_by, counts}
 use Rattle.metering_model.specs.Records.{MeterRecord, counted_at, energy_in, bound_in, samples_after}
 use Rattle.metering_model.specs.Integral.{Temps, energy_or_none, IsChoiceOf, IsChoice, exact_integral, litres_or_none, IsNear, Fits, AddsBy, AllFit, IsBounded, FitsWithMargin, AllFitWithMargin, counted_litres}
-use native.Mathlib.Nat.{mul-le-mul_left}
-use Rattle.platinum_model.specs.Element.{Element}
-use Rattle.platinum_model.specs.Sample.{IsInRange, AreCellEnds}
-use Rattle.platinum_model.proofs.Cells.{IsSteep, AreCellEnds-width}
 use Rattle.metering_model.proofs.Counting.{counts-is}
 
 -- ---- sums of what is near
@@ -130,7 +130,7 @@ counted-in_range c (Some s) (Pulse n) =
     in_range-cond c (record { flow = s.0; ret = s.1; litres = n * c.litres_per_pulse }) (counts c s.0 s.1)
     (λ h. let pair = counts-is c s.0 s.1 h in (pair.temps.flow_in_range, pair.temps.return_in_range))
 
--- 12 b ≤ litres (15,600 + 2,800 + 2,800), so that at most 600 mJ a litre are beyond the margin
+-- 12 b is at most 21,200 mJ a litre, so that b is at most 600 mJ a litre beyond the margin of 1,200
 margin : (b l f g : ℕ) → f ≤ 2800 → g ≤ 2800 → 12 * b ≤ l * (15600 + f + g) → b ≤ 1800 * l
 margin b l f g flow ret narrow =
     let wide : l * (15600 + f + g) ≤ l * 21600 = mul-le-mul_left l (omega arith) in

@@ -39,7 +39,7 @@ record IsGreatestTo (n : ℕ) (e : Element) (r t : ℕ) : Type 0 where
   reached : resistance e (microdegrees t) ≤ℚ whole r
   greatest : (s : ℕ) → s ≤ n → resistance e (microdegrees s) ≤ℚ whole r → s ≤ t
 
--- one more
+-- where n + 1 microdegrees are too many, the greatest up to n is also that up to n + 1
 by_order : (n : ℕ) (e : Element) (r t : ℕ) → IsGreatestTo n e r t → is_at_most (resistance e (microdegrees (suc n))) (whole r) ≡ false → (s : ℕ) → s ≤ suc n → resistance e (microdegrees s) ≤ℚ whole r → (s ≡ suc n) ⊎ (s ≡ suc n → ⊥) → s ≤ t
 by_order n e r t rest above s h k (inl same) =
     let here : is_at_most (resistance e (microdegrees (suc n))) (whole r) ≡ true = ap (λ m. is_at_most (resistance e (microdegrees m)) (whole r)) (sym same) ∙ at_most-true k in
