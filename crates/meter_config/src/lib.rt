@@ -1,0 +1,6 @@
+//! The configuration of a heat meter.
+#![tactic(auto)]
+
+mod config;
+
+pub use config::Config;
