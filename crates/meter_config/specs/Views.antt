@@ -1,19 +1,13 @@
 -- A configuration as the definitions name it.
 use Rattle.std.specs.Prelude.{ℕ}
 use Rattle.platinum_model.specs.Element.{nominal}
-use Rattle.heat_model.specs.Heat
 use Rattle.metering_model.specs.Settings.{Settings}
 use Rattle.config_model.specs.Configuration.{Configuration}
-use Rattle.sensor_pair.specs.declared.place.Place.{Place}
-use Rattle.sensor_pair.specs.declared.place.Place.TheVariants.{Flow, Return}
+use Rattle.sensor_pair.specs.Place.{place_view}
 use Rattle.pt_curve.specs.Curve.{nominal_r0}
 use Rattle.pt_curve.specs.declared.sensor.Sensor.{Sensor}
 use Rattle.pt_curve.specs.declared.sensor.Sensor.TheVariants.{Pt100, Pt500, Pt1000}
 use Rattle.meter_config.specs.declared.config.Config.{Config}
-
-abbrev pub place_view : Place → Heat.Place
-place_view Flow = Heat.Flow
-place_view Return = Heat.Return
 
 -- the resistance at 0 °C in ohms
 abbrev pub sensor_ohm : Sensor → ℕ
