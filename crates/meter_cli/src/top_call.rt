@@ -1,21 +1,22 @@
 //! What the program does.
 ghost use Rattle.std.specs.Prelude.{◌≡◌, ◌⊎◌, ◌↔◌, ℕ, [], Ok, Err};
-ghost use Rattle.metering_model.specs.Records.{zero_record};
 ghost use Rattle.script_model.specs.Lines.{lines_of};
 ghost use Rattle.trace_model.specs.Trace.{IsFresh};
 ghost use Rattle.trace_model.specs.Output.{PutsAlone};
 ghost use Rattle.journal_model.specs.Pairing.{NoneRefused};
 ghost use Rattle.meter_board.specs.Causes.{Rose};
-ghost use Rattle.run_engine.specs.Dry.{dry_settings};
+ghost use Rattle.run_engine.specs.Dry.{dry_opening, dry_settings};
+ghost use Rattle.meter_cli.specs.Coef.{CoefLeaves};
 ghost use Rattle.meter_cli.specs.Command.{PutsOneLine, command_of, texts};
 ghost use Rattle.meter_cli.specs.Status.{DryLeaves, status_of};
 ghost use Rattle.meter_cli.specs.Temp.{TempLeaves};
 ghost use Rattle.meter_cli.specs.Water.{WaterLeaves};
 ghost use Rattle.meter_cli.specs.declared.job.Job.{Job};
 ghost use Rattle.pt_curve.specs.declared.sensor.Sensor.{Sensor};
+ghost use Rattle.sensor_pair.specs.declared.place.Place.{Place};
 
 use crate::job::{Job, command};
-use crate::physics::{temp, water};
+use crate::physics::{coef, temp, water};
 use crate::status::Status;
 use meter_board::{Board, Source};
 use run_engine::{Ended, dry};
@@ -37,12 +38,13 @@ pub fn meter<S: Source, B: Board>(
 
     // What `dry` leaves, and when it must answer Done.
     ensures dry { command_of (texts words.now) ≡ Ok Job.Dry → S.tells → B.tells → DryLeaves (S.left source.old) (B.trace board.new) result }
-    ensures complete { command_of (texts words.now) ≡ Ok Job.Dry → S.tells → B.tells → NoneRefused dry_settings zero_record (lines_of (S.left source.old)) → ¬ Rose (S.faults source.old) (S.faults source.new) → ¬ Rose (B.output_faults board.old) (B.output_faults board.new) → (result ≡ Status.Done) ⊎ (result ≡ Status.OutOfMemory) }
+    ensures complete { command_of (texts words.now) ≡ Ok Job.Dry → S.tells → B.tells → NoneRefused dry_settings dry_opening (lines_of (S.left source.old)) → ¬ Rose (S.faults source.old) (S.faults source.new) → ¬ Rose (B.output_faults board.old) (B.output_faults board.new) → (result ≡ Status.Done) ⊎ (result ≡ Status.OutOfMemory) }
     ensures end { command_of (texts words.now) ≡ Ok Job.Dry → S.tells → B.tells → result ≡ Status.Done → S.left source.new ≡ [] }
 
     // The commands that put one line read nothing, and are done unless the output failed.
     ensures temp { (sensor : Sensor) (r : ℕ) → command_of (texts words.now) ≡ Ok (Job.Temp sensor r) → B.tells → TempLeaves sensor r (B.trace board.old) (B.trace board.new) result }
     ensures water { (p t : ℕ) → command_of (texts words.now) ≡ Ok (Job.Water p t) → B.tells → WaterLeaves p t (B.trace board.old) (B.trace board.new) result }
+    ensures coef { (place : Place) (p tf tr : ℕ) → command_of (texts words.now) ≡ Ok (Job.Coef place p tf tr) → B.tells → CoefLeaves place p tf tr (B.trace board.old) (B.trace board.new) result }
     ensures one_line { (job : Job) → command_of (texts words.now) ≡ Ok job → PutsOneLine job → (result ≡ Status.Done) ⊎ Rose (B.output_faults board.old) (B.output_faults board.new) }
     ensures unread { (job : Job) → command_of (texts words.now) ≡ Ok job → PutsOneLine job → source.new ≡ source.old }
 
@@ -58,6 +60,14 @@ pub fn meter<S: Source, B: Board>(
         Ok(Job::Dry) => status_from(dry(alloc, source, board)),
         Ok(Job::Temp { sensor, r }) => temp(board, sensor, r),
         Ok(Job::Water { p_kpa, t_udeg }) => water(board, p_kpa, t_udeg),
+        Ok(
+            Job::Coef {
+                place,
+                p_kpa,
+                tf_udeg,
+                tr_udeg,
+            },
+        ) => coef(board, place, p_kpa, tf_udeg, tr_udeg),
     }
 }
 
