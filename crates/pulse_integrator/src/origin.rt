@@ -1,0 +1,37 @@
+//! What a rate is made from.
+
+ghost use Rattle.std.specs.Prelude.{Some};
+
+use crate::per_litre::PerLitre;
+use heat_coeff::litre_energy;
+use if97_region1::Water;
+use sensor_pair::{Pair, Place, Verdict};
+
+/// What a rate was made from.
+#[derive(Clone, Copy, Debug, PartialEq, Eq)]
+pub struct Origin {
+    pub water: Water,
+    pub pair: Pair,
+    pub place: Place,
+    /// The sample of the flow, in microohms.
+    pub rf: u32,
+    /// The sample of the return, in microohms.
+    pub rr: u32,
+}
+
+impl Origin {
+    ghost use Rattle.pulse_integrator.specs.Adds.{AddsLitre};
+
+    /// What a litre adds.
+    pub(crate) fn litre(self) -> PerLitre
+        ensures { AddsLitre (Some self) result }
+    {
+        match self.pair.judge(self.rf, self.rr) {
+            Verdict::Counts { f, r } => {
+                PerLitre::of(litre_energy(&self.water, self.place, f, r), f, r)
+            }
+            Verdict::Small => PerLitre::none(false),
+            Verdict::FlowOut | Verdict::ReturnOut | Verdict::BothOut => PerLitre::none(true),
+        }
+    }
+}
