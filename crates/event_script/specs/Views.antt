@@ -5,7 +5,7 @@ use Rattle.script_model.specs.Lines.{words_of}
 use Rattle.script_model.specs.Grammar as grammar
 use Rattle.journal_model.specs.Faults as faults
 use Rattle.event_script.specs.declared.Event.{Event}
-use Rattle.event_script.specs.declared.Event.TheVariants.{Pulse}
+use Rattle.event_script.specs.declared.Event.TheVariants.{Sample, Pulse, Date}
 use Rattle.event_script.specs.declared.Line.{Line}
 use Rattle.event_script.specs.declared.Line.TheVariants.{Metering}
 use Rattle.event_script.specs.declared.Grammar.{Grammar}
@@ -13,14 +13,18 @@ use Rattle.event_script.specs.declared.LineFault.{LineFault}
 use Rattle.event_script.specs.declared.LineFault.TheVariants as refused
 
 abbrev pub event_view : Event → events.Event
+event_view (Sample rf rr) = events.Sample rf rr
 event_view (Pulse n) = events.Pulse n
+event_view (Date day) = events.Date day.number
 
 abbrev pub line_view : Line → grammar.Line
 line_view (Metering event) = grammar.Metering (event_view event)
 
 abbrev pub fault_view : LineFault → faults.Fault
 fault_view (refused.Grammar at) = faults.Grammar at
+fault_view (refused.DateBack in_force) = faults.DateBack in_force.number
 fault_view (refused.PulsesFull sum) = faults.PulsesFull sum
+fault_view (refused.EventsFull seq) = faults.EventsFull seq
 fault_view refused.TooLong = faults.TooLong
 fault_view refused.TooMany = faults.TooMany
 
@@ -28,9 +32,14 @@ fault_view refused.TooMany = faults.TooMany
 abbrev pub Reads : Result Line Grammar → Result grammar.Line ℕ → Type 0
 Reads result said = MatchResult result (λ line. said ≡ Ok (line_view line)) (λ e. said ≡ Err e.at)
 
--- a pulse line has 1 to 10^15 pulses
+-- a pulse event has 1 to 10^15 pulses
+abbrev pub IsEvent : Event → Type 0
+IsEvent (Sample rf rr) = Unit {0}
+IsEvent (Pulse n) = (1 ≤ n) × (n ≤ 1000000000000000)
+IsEvent (Date day) = Unit {0}
+
 abbrev pub IsInRange : Line → Type 0
-IsInRange (Metering (Pulse n)) = (1 ≤ n) × (n ≤ 1000000000000000)
+IsInRange (Metering event) = IsEvent event
 
 -- the words that are left: none, or those of a text
 abbrev pub rest_words : Option (List ℕ) → List (List ℕ)

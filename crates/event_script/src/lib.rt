@@ -1,10 +1,12 @@
 //! The lines of a script: what each says, or why it is refused.
 #![tactic(auto)]
 
+mod date;
 mod number;
 mod read;
 mod words;
 
+use billing_memory::Day;
 pub use number::number_word;
 pub use read::read_line;
 use thiserror::Error;
@@ -13,8 +15,12 @@ pub use words::split_line;
 /// A metering event.
 #[derive(Clone, Copy, Debug, PartialEq, Eq)]
 pub enum Event {
+    /// Samples of the sensors in flow and return, in microohms.
+    Sample { rf: u32, rr: u32 },
     /// `n` pulses of the flow sensor, 1 to 10^15.
     Pulse { n: u64 },
+    /// A new day.
+    Date { day: Day },
 }
 
 /// What a line of a script says.
@@ -36,9 +42,15 @@ pub enum LineFault {
     /// The line is outside the grammar, with the place of its first wrong, missing or extra word, counted from 0.
     #[error("word {at}")]
     Grammar { at: u8 },
+    /// The day is before the one in force.
+    #[error("the day is before day {} in force", .in_force.number)]
+    DateBack { in_force: Day },
     /// The register would have `sum` pulses, more than 10^15.
     #[error("pulses {sum}")]
     PulsesFull { sum: u64 },
+    /// The record has `seq` events, 10^18, and takes no more.
+    #[error("events {seq}")]
+    EventsFull { seq: u64 },
     /// The line has more than 120 bytes.
     #[error("too long")]
     TooLong,
