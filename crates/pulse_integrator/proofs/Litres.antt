@@ -2,10 +2,10 @@
 use Rattle.std.proofs.Common.{◌≡◌, ℕ, ◌+◌, ◌-◌, ◌*◌, ◌≤◌, refl, sym, subst, ap, ◌∙◌, arith, pos, ℤ, ◌+ℤ◌, ◌-ℤ◌, ◌*ℤ◌, ◌≤ℤ◌, Bool, true, false, ◌&&◌, cond, Option, None, Some}
 use Rattle.std.proofs.lemmas.Int.{ints}
 use native.Mathlib.Nat.{mul-le-mul_left}
-use Rattle.number_model.specs.Fraction.{Fraction, ◌≤ℚ◌, ◌*ℚ◌, whole}
+use Rattle.number_model.specs.Fraction.{Fraction, ◌*ℚ◌, whole}
 use Rattle.number_model.specs.Enclosure.{SpanHolds}
 use Rattle.number_model.specs.Rounding.{IsWithin}
-use Rattle.number_model.proofs.Ints.{as_diff, pos-diff, same_diff, ring, mul-le_pos, recast, ≤ℤ_trans}
+use Rattle.number_model.proofs.Ints.{as_diff, same_diff, ring, mul-le_pos, recast, ≤ℤ_trans}
 use Rattle.platinum_model.specs.Element.{Element}
 use Rattle.platinum_model.specs.Sample.{IsCellSpan, IsInRange}
 use Rattle.platinum_model.specs.Pair.{IsCountingPair, IsSmallPair}
@@ -13,14 +13,14 @@ use Rattle.heat_model.specs.Heat.{Place, LiesBetween, litre_energy}
 use Rattle.metering_model.specs.Events.{Pulse}
 use Rattle.metering_model.specs.Settings.{Settings}
 use Rattle.metering_model.specs.Counting.{Counted, counted_by, counts, faulty_by, is_in_range}
-use Rattle.metering_model.specs.Integral.{AddsBy, Fits, FitsWithMargin, Temps, AreInCells}
+use Rattle.metering_model.specs.Integral.{AddsBy, FitsWithMargin, Temps, AreInCells}
 use Rattle.metering_model.proofs.Counting.{counts-true, counts-false, counts-no_flow, counts-no_return, in_range-true, in_range-false}
 use Rattle.pt_curve.specs.Curve.{element}
 use Rattle.sensor_pair.specs.Place.{place_view}
 use Rattle.energy_register.specs.declared.Step.{Step}
 use Rattle.pulse_integrator.specs.declared.origin.Origin.{Origin}
 use Rattle.pulse_integrator.specs.declared.per_litre.PerLitre.{PerLitre}
-use Rattle.pulse_integrator.specs.Adds.{AreInForce, litre_by, FitsLitre, AddsLitre, IsStep, AddsPulses}
+use Rattle.pulse_integrator.specs.Adds.{AreInForce, litre_by, FitsLitre, AddsLitre, AddsPulses}
 
 -- of x litres as of one
 times_low : (x d : ℕ) (z n : ℤ) → (z *ℤ pos d) ≤ℤ (n *ℤ pos 1) → ((pos x *ℤ z) *ℤ pos (1 * d)) ≤ℤ ((pos x *ℤ n) *ℤ pos 1)

@@ -1,5 +1,5 @@
 -- What pulses add at the samples in force.
-use Rattle.std.specs.Prelude.{◌≡◌, ℕ, ◌+◌, ◌-◌, ◌*◌, ◌≤◌, cond, ℤ, pos, ◌-ℤ◌, Option, None, Some}
+use Rattle.std.specs.Prelude.{◌≡◌, ℕ, ◌+◌, ◌-◌, ◌*◌, ◌≤◌, cond, pos, ◌-ℤ◌, Option, None, Some}
 use Rattle.number_model.specs.Rounding.{IsWithin}
 use Rattle.platinum_model.specs.Sample.{AreCellEnds}
 use Rattle.metering_model.specs.Events.{Pulse}

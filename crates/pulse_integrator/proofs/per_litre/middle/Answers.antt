@@ -1,4 +1,4 @@
-use Rattle.std.proofs.Common.{◌≡◌, pos, negsuc, ℤ, ◌+ℤ◌, ◌*ℤ◌, ◌≤ℤ◌, w64, arith, to_z-of_z, rules, lit<}
+use Rattle.std.proofs.Common.{pos, negsuc, ℤ, ◌+ℤ◌, ◌*ℤ◌, ◌≤ℤ◌, w64, arith, to_z-of_z, rules}
 use Rattle.std.proofs.lemmas.Int.{ints}
 use mir.Syntax.{w128}
 use mir.Val.{SFits}

@@ -1,13 +1,11 @@
-use Rattle.std.proofs.Common.{◌≡◌, ℕ, ◌+◌, ◌-◌, ◌*◌, ◌≤◌, refl, pos, ℤ, ◌+ℤ◌, ◌-ℤ◌, ◌*ℤ◌, ◌≤ℤ◌, arith, sym, Some, subst, ◌⊎◌, inl, inr}
+use Rattle.std.proofs.Common.{◌≡◌, ℕ, ◌+◌, ◌-◌, ◌≤◌, pos, ℤ, ◌+ℤ◌, ◌-ℤ◌, ◌*ℤ◌, ◌≤ℤ◌, arith, sym, Some, subst, ◌⊎◌, inl, inr}
 use Rattle.std.proofs.lemmas.Int.{ints}
-use Rattle.platinum_model.specs.Sample.{IsCellSpan}
-use Rattle.pt_curve.specs.Curve.{element}
 use Rattle.interval_num.specs.declared.span.Span.{Span}
 use Rattle.sensor_pair.specs.declared.verdict.Verdict.{Verdict}
 use Rattle.sensor_pair.specs.Verdict.{IsCounts, IfCounts}
 use Rattle.sensor_pair.specs.declared.verdict.Verdict.TheVariants.{Counts, FlowOut, ReturnOut, BothOut}
 use Rattle.pulse_integrator.specs.Adds.{AddsLitre}
-use Rattle.pulse_integrator.proofs.Litres.{IsEnclosed, adds_counted, adds_small, adds_flow_out, adds_return_out}
+use Rattle.pulse_integrator.proofs.Litres.{adds_counted, adds_small, adds_flow_out, adds_return_out}
 use Rattle.pulse_integrator.proofs.origin.Origin.litre.Goals as goal
 
 -- the cells of the samples that count

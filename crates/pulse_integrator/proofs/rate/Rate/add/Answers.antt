@@ -1,4 +1,4 @@
-use Rattle.std.proofs.Common.{◌≡◌, ◌∙◌, ◌*◌, ◌≤◌, ap, sym, refl, ℕ, ℤ, pos, ◌*ℤ◌, cond, arith, to_z-of_z, rules, w64}
+use Rattle.std.proofs.Common.{◌≡◌, ◌∙◌, ◌*◌, ap, refl, ℕ, pos, ◌*ℤ◌, to_z-of_z, rules, w64}
 use mir.Syntax.{w128}
 use mir.Val.{SFits}
 use Rattle.pulse_integrator.proofs.Litres.{adds_pulses}

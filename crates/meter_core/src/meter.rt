@@ -1,0 +1,161 @@
+//! The state of a meter, and what events do to it.
+
+ghost use Rattle.std.specs.Prelude.{◌≡◌, ◌∷◌, [], ◌<◌, ◌≤◌, pos, OnErr};
+ghost use Rattle.std.specs.Int.{IsInRange};
+ghost use Rattle.metering_model.specs.Events.{Sample, Pulse, Date};
+ghost use Rattle.metering_model.specs.Settings.{Settings};
+ghost use Rattle.metering_model.specs.Records.{StandsFor};
+ghost use Rattle.billing_memory.specs.Records.{record_view};
+ghost use Rattle.event_script.specs.Views.{event_view, IsEvent};
+ghost use Rattle.meter_config.specs.Views.{settings_of};
+ghost use Rattle.pulse_integrator.specs.Adds.{AreInForce};
+ghost use Rattle.meter_core.specs.Events.{Takes};
+
+use crate::Refused;
+use billing_memory::{Day, MeterRecord};
+use event_script::Event;
+use if97_region1::Water;
+use meter_config::Config;
+use pulse_integrator::Rate;
+
+/// The most events of a record, 10^18.
+const MAX_EVENTS: u64 = 1_000_000_000_000_000_000;
+
+/// A meter: its configuration, and the record that it keeps.
+#[derive(Debug, PartialEq, Eq)]
+pub struct Meter {
+    config: Config,
+    record: MeterRecord,
+    water: Water,
+    pub ghost pressure: { water.p_kpa ≡ config.pressure_kpa },
+}
+
+impl Meter {
+    /// A meter that goes on from a record.
+    pub fn start(c: Config, m: MeterRecord) -> Meter
+        ensures config { result.config ≡ c }
+        ensures record { result.record ≡ m }
+    {
+        Meter {
+            config: c,
+            record: m,
+            water: Water::new(u32::from(c.pressure_kpa)).unwrap(),
+        }
+    }
+
+    /// Takes an event. A sample replaces the samples in force. Pulses add to the register what they carry
+    /// at the samples in force, and to the faulty pulses where a sample is out of range. A date moves the
+    /// day on, with the entries of the months that it passes.
+    ///
+    /// # Errors
+    /// [`Refused::EventsFull`] exactly where the record has 10^18 events. Otherwise
+    /// [`Refused::DateBack`] exactly for a date before the day in force, and [`Refused::PulsesFull`]
+    /// exactly where the register would count more than 10^15 pulses. Nothing is changed then.
+    pub fn apply(&mut self, e: &Event) -> Result<(), Refused>
+        requires { IsEvent e.now }
+        ensures takes { Takes (settings_of self.old.config) (record_view self.old.record) (event_view e.now) (record_view self.new.record) result }
+        ensures unchanged { OnErr result (self.new ≡ self.old) }
+        ensures config { self.new.config ≡ self.old.config }
+    {
+        if self.record.seq == MAX_EVENTS {
+            return Err(Refused::EventsFull {
+                seq: self.record.seq,
+            });
+        }
+        match *e {
+            Event::Sample { rf, rr } => {
+                take_samples(&mut self.record, rf, rr);
+                Ok(())
+            }
+            Event::Pulse { n } => {
+                let rate = self.rate();
+                take_pulses(&mut self.record, &rate, n)
+            }
+            Event::Date { day } => take_date(&mut self.record, day, self.config.set_month),
+        }
+    }
+
+    // The rate at the samples in force.
+    fn rate(&self) -> Rate
+        ensures per_pulse { result.per_pulse ≡ self.now.config.per_pulse }
+        ensures in_force { AreInForce (settings_of self.now.config) self.now.record.samples result.origin }
+    {
+        let config = &self.config;
+        match self.record.samples {
+            None => Rate::none(config.per_pulse),
+            Some((rf, rr)) => Rate::of(
+                &self.water,
+                &config.pair(),
+                config.place,
+                config.per_pulse,
+                rf,
+                rr,
+            ),
+        }
+    }
+
+    /// The record.
+    pub fn state(&self) -> &MeterRecord
+        ensures { result.now ≡ self.now.record }
+    {
+        &self.record
+    }
+
+    /// The configuration.
+    pub fn config(&self) -> &Config
+        ensures { result.now ≡ self.now.config }
+    {
+        &self.config
+    }
+}
+
+// Replaces the samples in force.
+fn take_samples(m: &mut MeterRecord, rf: u32, rr: u32)
+    requires { m.old.seq < 1000000000000000000 }
+    ensures { (c : Settings) → c.kept_months ≡ 24 →
+        StandsFor c (record_view m.old) (record { event = Sample rf rr; energy_mj = pos 0; bound_mj = 0 } ∷ [])
+        (record_view m.new) }
+{
+    m.samples = Some((rf, rr));
+    m.seq += 1;
+}
+
+// Counts pulses and what they carry.
+fn take_pulses(m: &mut MeterRecord, rate: &Rate, n: u64) -> Result<(), Refused>
+    requires room { m.old.seq < 1000000000000000000 }
+    requires some { 1 ≤ n }
+    requires most { n ≤ 1000000000000000 }
+    ensures takes { (c : Settings) → c.kept_months ≡ 24 → c.litres_per_pulse ≡ rate.now.per_pulse →
+        AreInForce c m.old.samples rate.now.origin →
+        Takes c (record_view m.old) (Pulse n) (record_view m.new) result }
+    ensures unchanged { OnErr result (m.new ≡ m.old) }
+{
+    let step = rate.add(n);
+    let register = match m.register.after(step, n) {
+        Ok(register) => register,
+        Err(full) => return Err(Refused::PulsesFull { sum: full.sum }),
+    };
+    m.register = register;
+    m.faulty += step.faulty;
+    m.seq += 1;
+    Ok(())
+}
+
+// Moves the day on.
+fn take_date(m: &mut MeterRecord, day: Day, set_month: u8) -> Result<(), Refused>
+    requires room { m.old.seq < 1000000000000000000 }
+    requires month { IsInRange 1 12 set_month }
+    ensures takes { (c : Settings) → c.kept_months ≡ 24 → c.set_month ≡ set_month →
+        Takes c (record_view m.old) (Date day.number) (record_view m.new) result }
+    ensures unchanged { OnErr result (m.new ≡ m.old) }
+{
+    match m.move_to(day, set_month) {
+        Ok(()) => {
+            m.seq += 1;
+            Ok(())
+        }
+        Err(back) => Err(Refused::DateBack {
+            in_force: back.in_force,
+        }),
+    }
+}
