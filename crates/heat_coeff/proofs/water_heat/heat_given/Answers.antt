@@ -1,0 +1,9 @@
+use Rattle.std.proofs.Common.{arith}
+use Rattle.std.proofs.lemmas.Int.{ints}
+use Rattle.heat_coeff.proofs.water_heat.heat_given.Goals as goal
+
+pub returns-clause-most : goal.returns-clause-most
+returns-clause-most c = omega (arith, ints, c.enthalpy.ensures.most, c.enthalpy-2.ensures.least, c.sub.ensures.hi)
+
+pub returns-clause-width : goal.returns-clause-width
+returns-clause-width c = omega (arith, ints, c.enthalpy.ensures.width, c.enthalpy-2.ensures.width, c.sub.ensures.lo, c.sub.ensures.hi)

@@ -1,0 +1,60 @@
+ghost use Rattle.std.specs.Prelude.{◌≡◌, ◌+◌, ◌-◌, ◌*◌, ◌^◌, ◌≤◌, pos, ◌-ℤ◌, ◌*ℤ◌, ◌≤ℤ◌};
+ghost use Rattle.number_model.specs.Fraction.{◌*ℚ◌, whole};
+ghost use Rattle.platinum_model.specs.Element.{microdegrees};
+ghost use Rattle.heat_model.specs.Heat.{LiesBetween, heat_coefficient};
+ghost use Rattle.heat_coeff.specs.Views.{place_view};
+
+use crate::quotient::quotient_ends;
+use crate::water_heat::{heat_given, metered_volume};
+use if97_region1::Water;
+use interval_num::Span;
+use sensor_pair::Place;
+
+/// 10^6 microdegrees a degree and 10^6 units a kJ/(m³ K), times 2^56 / 2^48 of the scales of the
+/// volume and the enthalpy.
+const MILLIONTHS: u64 = 256_000_000_000_000;
+
+const NDEG_PER_UDEG: u64 = 1_000;
+
+/// The heat coefficient in units of 10^-6 kJ/(m³ K) lies from lo to hi.
+#[derive(Clone, Copy, Debug, PartialEq, Eq)]
+pub struct Factor {
+    pub lo: i128,
+    pub hi: i128,
+}
+
+/// The heat coefficient k of EN 1434-1 at these temperatures in microdegrees Celsius, where the flow is
+/// at least 10,000 warmer than the return and at most 180 °C: (h(flow) - h(return)) / (v (flow - return)).
+/// The distance of the ends, less 1,000, times the difference of the temperatures is at most 10^10.
+pub fn coeff(w: &Water, place: Place, tf_udeg: u32, tr_udeg: u32) -> Factor
+    requires apart { tr_udeg + 10000 ≤ tf_udeg }
+    requires range { tf_udeg ≤ 180000000 }
+    ensures holds { LiesBetween result.lo result.hi
+        (whole 1000000 *ℚ heat_coefficient w.now.p_kpa (place_view place)
+        (microdegrees tf_udeg) (microdegrees tr_udeg)) }
+    ensures ordered { result.lo ≤ℤ result.hi }
+    ensures width { ((result.hi -ℤ result.lo -ℤ pos 1000) *ℤ pos (tf_udeg - tr_udeg)) ≤ℤ pos (10 ^ 10) }
+{
+    let f = point(tf_udeg);
+    let r = point(tr_udeg);
+    let given = heat_given(w, f, r);
+    let volume = metered_volume(w, place, f, r);
+    let ends = quotient_ends(given, volume, MILLIONTHS, tf_udeg - tr_udeg);
+    Factor {
+        lo: ends.lo,
+        hi: ends.hi,
+    }
+}
+
+/// The one temperature `t_udeg`.
+fn point(t_udeg: u32) -> Span
+    requires { t_udeg ≤ 180000000 }
+    ensures lo { result.lo ≡ t_udeg * 1000 }
+    ensures hi { result.hi ≡ t_udeg * 1000 }
+{
+    let t_ndeg = t_udeg as u64 * NDEG_PER_UDEG;
+    Span {
+        lo: t_ndeg,
+        hi: t_ndeg,
+    }
+}
