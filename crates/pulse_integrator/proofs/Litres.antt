@@ -278,6 +278,7 @@ adds_pulses per_pulse origin l n s litre e b faulty = record {
   };
   size = rw e (size_times (n * per_pulse) l.e_mj litre.size);
   bound = rw b (bound_times (n * per_pulse) l.b_mj litre.bound);
+  few = rw faulty (few_of l.faulty);
 }
   where
     size_times : (x : ℕ) (z : ℤ) → IsWithin 2000000000 z → IsWithin (2000000000 * x) (pos x *ℤ z)
@@ -288,6 +289,10 @@ adds_pulses per_pulse origin l n s litre e b faulty = record {
       where
         turned : (x : ℕ) (z : ℤ) → pos x *ℤ z ≡ z *ℤ pos x
         turned x z = rw (as_diff z) (simp ring (same_diff _ _ _ _ (omega arith)))
+
+    few_of : (f : Bool) → cond f n 0 ≤ n
+    few_of true = omega arith
+    few_of false = omega arith
 
     bound_times : (x b : ℕ) → b ≤ 2000 → x * b ≤ 2000 * x
     bound_times x b h = let k : x * b ≤ x * 2000 = mul-le-mul_left x h in omega (arith, k)

@@ -30,6 +30,7 @@ pub record AddsPulses (per_pulse : ℕ) (origin : Option Origin) (n : ℕ) (s : 
   pub step : (c : Settings) (samples : Option (ℕ × ℕ)) → c.litres_per_pulse ≡ per_pulse → AreInForce c samples origin → IsStep c samples n s
   pub size : IsWithin (2000000000 * (n * per_pulse)) s.e_mj
   pub bound : s.b_mj ≤ 2000 * (n * per_pulse)
+  pub few : s.faulty ≤ n
 
 -- a litre at these samples
 abbrev pub litre_by : Settings → Option (ℕ × ℕ) → Option Counted
