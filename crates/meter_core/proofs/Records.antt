@@ -50,7 +50,7 @@ pub pulses_taken : (c : Settings) (m : MeterRecord) (n : ℕ) (s : Step) (regist
 pulses_taken c m n s register keep room few step grown = (
   no_pulse_fault (record_view m) n room few,
   takes c (record_view m) _ (Pulse n) s.e_mj s.b_mj step.fits
-  (rw (step.faulty, grown.pulses, grown.energy, grown.bound) (stands-pulses c (record_view m) n s.e_mj s.b_mj (few_months m c keep))),
+      (rw (step.faulty, grown.pulses, grown.energy, grown.bound) (stands-pulses c (record_view m) n s.e_mj s.b_mj (few_months m c keep))),
 )
 
 -- a date is taken by a move to its day
@@ -70,7 +70,7 @@ pub date_taken : (c : Settings) (m new : MeterRecord) (day : Day) → c.kept_mon
 date_taken c m new day keep room later months set_day moved kept = (
   no_date_fault (record_view m) day.number room later,
   takes c (record_view m) _ (Date day.number) (pos 0) 0 (no_date c m.samples day.number)
-  (rw (same_months, set_day, moved, kept.seq, kept.samples, kept.faulty, kept.register) (stands-date c (record_view m) day.number later)),
+      (rw (same_months, set_day, moved, kept.seq, kept.samples, kept.faulty, kept.register) (stands-date c (record_view m) day.number later)),
 )
   where
     same_months : entries_view new.months.items ≡ latest c.kept_months (entries_view m.months.items ++ passed_entries (register_view m.register) m.day.number day.number)

@@ -22,7 +22,7 @@ use pulse_integrator::Rate;
 const MAX_EVENTS: u64 = 1_000_000_000_000_000_000;
 
 /// A meter: its configuration, and the record that it keeps.
-#[derive(Debug, PartialEq, Eq)]
+#[derive(Debug, PartialEq, Eq, Drop)]
 pub struct Meter {
     config: Config,
     record: MeterRecord,
