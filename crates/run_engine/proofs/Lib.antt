@@ -1,3 +1,4 @@
+pub mod Moments
 pub mod Runs
 pub mod Whole
 pub mod Complete

@@ -5,7 +5,8 @@ use Rattle.std.proofs.lemmas.Bool.{le-leb, leb-false, lt-ltb, ltb-false, cases_l
 use Rattle.std.proofs.lemmas.List.{append-nil}
 use Rattle.std.proofs.Math.ListN.{drop_of_length-le}
 use Rattle.metering_model.specs.Events.{Kept}
-use Rattle.metering_model.specs.Records.{MeterRecord, Settings, record_after, zero_record}
+use Rattle.metering_model.specs.Settings.{Settings}
+use Rattle.metering_model.specs.Records.{MeterRecord, record_after}
 use Rattle.script_model.specs.Lines.{lines_of}
 use Rattle.script_model.specs.Grammar.{line_of}
 use Rattle.trace_model.specs.Trace.{Trace}
@@ -13,8 +14,9 @@ use Rattle.trace_model.specs.Output.{OutputLine, output_lines, open_segment}
 use Rattle.journal_model.specs.Faults.{Fault, TooMany, TooLong, fault_of, said_fault}
 use Rattle.journal_model.specs.Pairing.{Answers, Pairs}
 use Rattle.event_script.specs.Views.{fault_view}
+use Rattle.run_engine.proofs.Moments.{moments_of}
 use Rattle.run_engine.proofs.Runs.{at_drop}
-use Rattle.run_engine.specs.Dry.{Ran, EndsAt, dry_settings}
+use Rattle.run_engine.specs.Dry.{Ran, EndsAt, dry_opening, dry_settings}
 use Rattle.run_engine.specs.declared.Ended.{Ended}
 use Rattle.run_engine.specs.declared.Ended.TheVariants.{Done, Line, Read, Write, OutOfMemory}
 
@@ -82,10 +84,10 @@ transfer : (c : Settings) (o : MeterRecord) (n : ℕ) (old : List Kept) (lines m
 transfer c o n old lines more [] new h long pairs = record { pairs = pairs; continue = h; long = omega arith }
 transfer c o n old [] more (a ∷ others) new h long pairs = absurd pairs
 transfer c o n old (l ∷ []) [] (a ∷ others) new h long pairs = absurd h
-transfer c o n old (l ∷ []) (m ∷ ms) (a ∷ others) new h long pairs = let t = takable (record_after o old) n l pairs.1.taken in absurd (omega (arith, t.few, t.short))
+transfer c o n old (l ∷ []) (m ∷ ms) (a ∷ others) new h long pairs = let t = takable (record_after c o old) n l pairs.1.taken in absurd (omega (arith, t.few, t.short))
 transfer c o n old (l ∷ k ∷ ls) [] (a ∷ others) new h long pairs = absurd h
 transfer c o n old (l ∷ k ∷ ls) (m ∷ ms) (a ∷ others) new h long pairs =
-    let t = takable (record_after o old) n l pairs.1.taken in
+    let t = takable (record_after c o old) n l pairs.1.taken in
     let rest = transfer c o (n + 1) pairs.0 (k ∷ ls) ms others new h.1 (omega (arith, t.few, t.short)) pairs.2 in
     record {
       pairs = (pairs.0, subst (λ x. Answers c o n old x a pairs.0) h.0 pairs.1, rest.pairs);
@@ -147,40 +149,41 @@ taken_place n lines more line h long place fits =
       by_cases ls found at long (inr goes) = let none : total ls ≡ 0 = ap total goes.0 in absurd (omega (arith, fits.few, fits.short))
 
 -- what a run over the front has to do with the whole
-moved : (c : Settings) (bytes more : List ℕ) (trace : Trace) (ended : Ended) → 121000001 ≤ length bytes → (ran : Ran c bytes trace ended) → Transferred c zero_record 0 [] (lines_of bytes) (lines_of (bytes ++ more)) (output_lines trace) ran.kept
-moved c bytes more trace ended long ran = transfer c zero_record 0 [] (lines_of bytes) (lines_of (bytes ++ more)) (output_lines trace) ran.kept (continues bytes more) (omega (arith, total_lines bytes)) ran.pairs
+moved : (c : Settings) (o : MeterRecord) (bytes more : List ℕ) (trace : Trace) (ended : Ended) → 121000001 ≤ length bytes → (ran : Ran c o bytes trace ended) → Transferred c o 0 [] (lines_of bytes) (lines_of (bytes ++ more)) (output_lines trace) ran.kept
+moved c o bytes more trace ended long ran = transfer c o 0 [] (lines_of bytes) (lines_of (bytes ++ more)) (output_lines trace) ran.kept (continues bytes more) (omega (arith, total_lines bytes)) ran.pairs
 
 -- so many bytes have a line that is refused
-pub never_done : (c : Settings) (bytes : List ℕ) (trace : Trace) → 121000001 ≤ length bytes → Ran c bytes trace Done → ⊥
-never_done c bytes trace long ran =
+pub never_done : (c : Settings) (o : MeterRecord) (bytes : List ℕ) (trace : Trace) → 121000001 ≤ length bytes → Ran c o bytes trace Done → ⊥
+never_done c o bytes trace long ran =
     let gone : drop (length (output_lines trace)) (lines_of bytes) ≡ [] = drop_of_length-le (lines_of bytes) (omega (arith, ran.ends.0)) in
     let none : total (drop (length (output_lines trace)) (lines_of bytes)) ≡ 0 = ap total gone in
-    let m = moved c bytes [] trace Done long ran in
+    let m = moved c o bytes [] trace Done long ran in
     omega (arith, m.long)
 
-whole : (c : Settings) (bytes more : List ℕ) (trace : Trace) (ended : Ended) → 121000001 ≤ length bytes → Ran c bytes trace ended → Ran c (bytes ++ more) trace ended
-whole c bytes more trace ended long ran = record {
+whole : (c : Settings) (o : MeterRecord) (bytes more : List ℕ) (trace : Trace) (ended : Ended) → 121000001 ≤ length bytes → Ran c o bytes trace ended → Ran c o (bytes ++ more) trace ended
+whole c o bytes more trace ended long ran = record {
   kept = ran.kept;
   pairs = m.pairs;
-  no_energy = ran.no_energy;
+  fits = ran.fits;
   ends = ends_too ended ran ran.ends;
   puts = ran.puts;
+  moments = moments_of c o (bytes ++ more) trace ran.kept m.pairs ran.fits;
 } where
-  m : Transferred c zero_record 0 [] (lines_of bytes) (lines_of (bytes ++ more)) (output_lines trace) ran.kept
-  m = moved c bytes more trace ended long ran
+  m : Transferred c o 0 [] (lines_of bytes) (lines_of (bytes ++ more)) (output_lines trace) ran.kept
+  m = moved c o bytes more trace ended long ran
 
   long_at : 121 * (1000000 - length (output_lines trace)) < total (drop (length (output_lines trace)) (lines_of bytes))
   long_at = subst (λ k. 121 * (1000000 - k) < total (drop (length (output_lines trace)) (lines_of bytes))) (zero-add _) m.long
 
-  ends_too : (end : Ended) → Ran c bytes trace end → EndsAt c (lines_of bytes) (output_lines trace) (open_segment trace) ran.kept end → EndsAt c (lines_of (bytes ++ more)) (output_lines trace) (open_segment trace) ran.kept end
-  ends_too Done here e = absurd (never_done c bytes trace long here)
+  ends_too : (end : Ended) → Ran c o bytes trace end → EndsAt c o (lines_of bytes) (output_lines trace) (open_segment trace) ran.kept end → EndsAt c o (lines_of (bytes ++ more)) (output_lines trace) (open_segment trace) ran.kept end
+  ends_too Done here e = absurd (never_done c o bytes trace long here)
   ends_too (Line n kind) here e =
-      let found = at_place (record_after zero_record ran.kept) (length (output_lines trace)) (lines_of bytes) (lines_of (bytes ++ more)) e.1.line (fault_view kind) m.continue long_at e.1.place e.1.why in
+      let found = at_place (record_after c o ran.kept) (length (output_lines trace)) (lines_of bytes) (lines_of (bytes ++ more)) e.1.line (fault_view kind) m.continue long_at e.1.place e.1.why in
       (e.0, record { line = found.0; place = found.1; why = found.2 }, e.2)
   ends_too Read here e = e
   ends_too Write here (inl e) = inl e
   ends_too Write here (inr e) =
-      let fits : IsTakable (length (output_lines trace)) e.2.line = takable (record_after zero_record ran.kept) (length (output_lines trace)) e.2.line e.2.answer.taken in
+      let fits : IsTakable (length (output_lines trace)) e.2.line = takable (record_after c o ran.kept) (length (output_lines trace)) e.2.line e.2.answer.taken in
       inr (
         e.0,
         e.1,
@@ -197,14 +200,14 @@ whole c bytes more trace ended long ran = record {
   ends_too OutOfMemory here e = e
 
 -- the bytes that were read, up to the end of the script or the limit
-pub of_script : (script bytes left : List ℕ) (trace : Trace) (ended : Ended) → script ≡ bytes ++ left → (length bytes < 121000001 → left ≡ []) → Ran dry_settings bytes trace ended → Ran dry_settings script trace ended
-of_script script bytes left trace ended cut all ran = subst (λ s. Ran dry_settings s trace ended) (sym cut) (by_length (cases_lt (length bytes) 121000001)) where
-  by_length : (length bytes < 121000001) ⊎ (121000001 ≤ length bytes) → Ran dry_settings (bytes ++ left) trace ended
-  by_length (inl short) = subst (λ r. Ran dry_settings (bytes ++ r) trace ended) (sym (all short)) (subst (λ s. Ran dry_settings s trace ended) (sym (append-nil bytes)) ran)
-  by_length (inr long) = whole dry_settings bytes left trace ended long ran
+pub of_script : (script bytes left : List ℕ) (trace : Trace) (ended : Ended) → script ≡ bytes ++ left → (length bytes < 121000001 → left ≡ []) → Ran dry_settings dry_opening bytes trace ended → Ran dry_settings dry_opening script trace ended
+of_script script bytes left trace ended cut all ran = subst (λ s. Ran dry_settings dry_opening s trace ended) (sym cut) (by_length (cases_lt (length bytes) 121000001)) where
+  by_length : (length bytes < 121000001) ⊎ (121000001 ≤ length bytes) → Ran dry_settings dry_opening (bytes ++ left) trace ended
+  by_length (inl short) = subst (λ r. Ran dry_settings dry_opening (bytes ++ r) trace ended) (sym (all short)) (subst (λ s. Ran dry_settings dry_opening s trace ended) (sym (append-nil bytes)) ran)
+  by_length (inr long) = whole dry_settings dry_opening bytes left trace ended long ran
 
-pub read_to_end : (bytes left : List ℕ) (trace : Trace) (ended : Ended) → (length bytes < 121000001 → left ≡ []) → ended ≡ Done → Ran dry_settings bytes trace ended → left ≡ []
+pub read_to_end : (bytes left : List ℕ) (trace : Trace) (ended : Ended) → (length bytes < 121000001 → left ≡ []) → ended ≡ Done → Ran dry_settings dry_opening bytes trace ended → left ≡ []
 read_to_end bytes left trace ended all is ran = by_length (cases_lt (length bytes) 121000001) where
   by_length : (length bytes < 121000001) ⊎ (121000001 ≤ length bytes) → left ≡ []
   by_length (inl short) = all short
-  by_length (inr long) = absurd (never_done dry_settings bytes trace long (subst (Ran dry_settings bytes trace) is ran))
+  by_length (inr long) = absurd (never_done dry_settings dry_opening bytes trace long (subst (Ran dry_settings dry_opening bytes trace) is ran))

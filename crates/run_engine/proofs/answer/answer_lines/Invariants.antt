@@ -1,10 +1,14 @@
-use Rattle.std.proofs.Common.{◌≤◌, length}
+use Rattle.std.proofs.Common.{◌≡◌, ◌≤◌, length}
+use Rattle.billing_memory.specs.Records.{record_view}
+use Rattle.meter_config.specs.Views.{settings_of}
+use Rattle.run_engine.specs.Dry.{dry_opening, dry_settings}
 use Rattle.run_engine.proofs.Runs.{Going}
 use Rattle.run_engine.proofs.answer.answer_lines.Given as goal
 
 abbrev pub invariant-loop-rest : goal.invariant-loop-rest
 invariant-loop-rest g l = record {
-  going : g.B.Board.tells → Going l.script l.rest l.taken l.register (g.B.Board.trace l.board);
+  going : g.B.Board.tells → Going dry_settings dry_opening l.script l.rest l.taken (record_view l.meter.record) (g.B.Board.trace l.board);
+  settings : settings_of l.meter.config ≡ dry_settings;
   later : g.B.Board.output_faults l.fn.board ≤ g.B.Board.output_faults l.board;
   few : l.taken ≤ 1000000;
 }
