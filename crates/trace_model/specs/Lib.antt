@@ -1,2 +1,4 @@
 pub mod Trace
 pub mod Output
+pub mod Images
+pub mod Moments
