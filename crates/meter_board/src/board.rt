@@ -9,7 +9,8 @@ use crate::{Failed, Refusal};
 
 /// The board of a meter: a memory of 16,384 bytes, and its output.
 pub trait Board {
-    /// Whether boards of this type tell their trace and what they read. Where it does not hold, nothing is known of these.
+    /// Whether boards of this type tell their trace and what they read. Where it does not hold, nothing is known
+    /// of these.
     ghost tells: { Type 0 };
 
     /// What happened to the board since it was handed in.
