@@ -1,12 +1,13 @@
 -- The status of a command: its number, its text, and what `dry` leaves at it.
 use Rattle.std.specs.Prelude.{◌≡◌, ℕ, List, [], ◌++◌, codes}
 use Rattle.std.specs.Fmt.{decimal}
+use Rattle.calendar_model.specs.Texts.{IsDayText}
 use Rattle.trace_model.specs.Trace.{Trace}
 use Rattle.event_script.specs.declared.LineFault.{LineFault}
-use Rattle.event_script.specs.declared.LineFault.TheVariants.{Grammar, PulsesFull, TooLong, TooMany}
+use Rattle.event_script.specs.declared.LineFault.TheVariants.{Grammar, DateBack, PulsesFull, EventsFull, TooLong, TooMany}
 use Rattle.run_engine.specs.declared.Ended.{Ended}
 use Rattle.run_engine.specs.declared.Ended.TheVariants as ended
-use Rattle.run_engine.specs.Dry.{Ran, dry_settings}
+use Rattle.run_engine.specs.Dry.{Ran, dry_opening, dry_settings}
 use Rattle.meter_cli.specs.declared.status.Status.{Status}
 use Rattle.meter_cli.specs.declared.status.Status.TheVariants.{Done, Usage, Line, Read, Write, OutOfMemory}
 
@@ -21,7 +22,7 @@ status_of ended.OutOfMemory = OutOfMemory
 pub record DryLeaves (script : List ℕ) (trace : Trace) (status : Status) : Type 0 where
   pub ended : Ended
   pub is : status ≡ status_of ended
-  pub ran : Ran dry_settings script trace ended
+  pub ran : Ran dry_settings dry_opening script trace ended
 
 abbrev pub code_of : Status → ℕ
 code_of Done = 0
@@ -31,16 +32,19 @@ code_of Read = 6
 code_of Write = 7
 code_of OutOfMemory = 11
 
-abbrev pub fault_text : LineFault → List ℕ
-fault_text (Grammar at) = codes ": word " ++ decimal at
-fault_text (PulsesFull sum) = codes ": pulses " ++ decimal sum
-fault_text TooLong = codes ": too long"
-fault_text TooMany = codes ": too many"
+-- what a status line says of a fault, the day in force as `YYYY-MM-DD`
+abbrev pub IsFaultText : LineFault → List ℕ → Type 0
+IsFaultText (Grammar at) text = text ≡ codes ": word " ++ decimal at
+IsFaultText (DateBack in_force) text = (day : List ℕ) × IsDayText in_force.number day × (text ≡ codes ": date before " ++ day)
+IsFaultText (PulsesFull sum) text = text ≡ codes ": pulses " ++ decimal sum
+IsFaultText (EventsFull seq) text = text ≡ codes ": events " ++ decimal seq
+IsFaultText TooLong text = text ≡ codes ": too long"
+IsFaultText TooMany text = text ≡ codes ": too many"
 
-abbrev pub status_text : Status → List ℕ
-status_text Done = []
-status_text (Usage word) = codes "usage: word " ++ decimal word
-status_text (Line n kind) = codes "line " ++ decimal n ++ fault_text kind
-status_text Read = codes "read fault"
-status_text Write = codes "write fault"
-status_text OutOfMemory = codes "out of memory"
+abbrev pub IsStatusText : Status → List ℕ → Type 0
+IsStatusText Done text = text ≡ []
+IsStatusText (Usage word) text = text ≡ codes "usage: word " ++ decimal word
+IsStatusText (Line n kind) text = (fault : List ℕ) × IsFaultText kind fault × (text ≡ codes "line " ++ decimal n ++ fault)
+IsStatusText Read text = text ≡ codes "read fault"
+IsStatusText Write text = text ≡ codes "write fault"
+IsStatusText OutOfMemory text = text ≡ codes "out of memory"

@@ -1,9 +1,11 @@
 //! How a command ended, as a status with a number and a text.
-ghost use Rattle.std.specs.Prelude.{◌≡◌, ◌+◌, ◌≤◌, ◌++◌, length, codes};
+ghost use Rattle.std.specs.Prelude.{◌≡◌, ◌+◌, ◌≤◌, ◌++◌, ℕ, List, length, codes};
 ghost use Rattle.std.specs.Fmt.{decimal};
-ghost use Rattle.meter_cli.specs.Status.{code_of, fault_text, status_text};
+ghost use Rattle.calendar_model.specs.Texts.{IsDayText};
+ghost use Rattle.meter_cli.specs.Status.{IsFaultText, IsStatusText, code_of};
 
 use arrayvec::ArrayString;
+use billing_memory::Day;
 use event_script::LineFault;
 use itoa::Buffer;
 
@@ -43,7 +45,7 @@ pub fn status_code(s: &Status) -> u8
 
 /// The text that the program writes to standard error, empty for [`Status::Done`].
 pub fn status_line(s: &Status) -> ArrayString<STATUS_ROOM>
-    ensures { result.bytes ≡ status_text s.now }
+    ensures { IsStatusText s.now result.bytes }
 {
     match s {
         Status::Done => ArrayString::new(),
@@ -56,15 +58,33 @@ pub fn status_line(s: &Status) -> ArrayString<STATUS_ROOM>
 }
 
 fn fault_line(n: u32, kind: &LineFault) -> ArrayString<STATUS_ROOM>
-    ensures { result.bytes ≡ codes "line " ++ decimal n ++ fault_text kind.now }
+    ensures { (fault : List ℕ) × IsFaultText kind.now fault × (result.bytes ≡ codes "line " ++ decimal n ++ fault) }
 {
     let mut line = numbered("line ", u64::from(n));
+    line.push_str(fault_text(kind).as_str());
+    line
+}
+
+fn fault_text(kind: &LineFault) -> ArrayString<STATUS_ROOM>
+    ensures text { IsFaultText kind.now result.bytes }
+    ensures short { length result.bytes ≤ 40 }
+{
     match kind {
-        LineFault::Grammar { at } => push_numbered(&mut line, ": word ", u64::from(*at)),
-        LineFault::PulsesFull { sum } => push_numbered(&mut line, ": pulses ", *sum),
-        LineFault::TooLong => line.push_str(": too long"),
-        LineFault::TooMany => line.push_str(": too many"),
+        LineFault::Grammar { at } => numbered(": word ", u64::from(*at)),
+        LineFault::DateBack { in_force } => before_day(*in_force),
+        LineFault::PulsesFull { sum } => numbered(": pulses ", *sum),
+        LineFault::EventsFull { seq } => numbered(": events ", *seq),
+        LineFault::TooLong => fixed(": too long"),
+        LineFault::TooMany => fixed(": too many"),
     }
+}
+
+fn before_day(in_force: Day) -> ArrayString<STATUS_ROOM>
+    ensures text { (day : List ℕ) × IsDayText in_force.number day × (result.bytes ≡ codes ": date before " ++ day) }
+    ensures short { length result.bytes ≤ 40 }
+{
+    let mut line = fixed(": date before ");
+    line.push_str(in_force.text().as_str());
     line
 }
 

@@ -4,6 +4,7 @@ ghost use Rattle.trace_model.specs.Trace.{IsFresh};
 ghost use Rattle.meter_board.specs.Sim.{sim_trace};
 
 use crate::*;
+use billing_memory::day_of;
 use event_script::LineFault;
 use meter_board::{CallKind, SimBoard, SliceSource};
 use pt_curve::Sensor;
@@ -60,6 +61,84 @@ fn lines_have_their_answers(rt: HostRuntime) -> Result<(), Fail> {
     Ok(())
 }
 
+// What the output lines of `dry` show: the number of events, the litres, the energy and its bound.
+fn dry_shows(
+    rt: &(impl Abort + AllocGlobal),
+    script: &[u8],
+) -> Result<Vec<(u64, u64, i64, u64)>, Fail> {
+    let mut board = board(rt)?;
+    let mut source = SliceSource::new(script, 64);
+    assert_eq!(rt;
+        meter(rt.alloc(), &DRY, &mut source, &mut board),
+        Status::Done
+    );
+    let bytes: Vec<u8> = board.output().collect(rt.alloc())?;
+    let mut shown = Vec::new(rt.alloc());
+    for line in std::str::from_utf8(&bytes)?.lines() {
+        shown.push(shown_by(rt, line)?)?;
+    }
+    Ok(shown)
+}
+
+fn shown_by(rt: &impl Abort, line: &str) -> Result<(u64, u64, i64, u64), Fail> {
+    let mut words = line.split_whitespace();
+    assert_eq!(rt; words.next(), Some("ok"));
+    let seq = words.next().ok_or("no number")?.parse::<u64>()?;
+    let litres = words.next().ok_or("no number")?.parse::<u64>()?;
+    let energy = words.next().ok_or("no number")?.parse::<i64>()?;
+    let bound = words.next().ok_or("no number")?.parse::<u64>()?;
+    assert_eq!(rt; words.next(), None);
+    Ok((seq, litres, energy, bound))
+}
+
+// A litre from 60 to 50 °C gives off about 41.4 kJ.
+#[test]
+fn energy_is_counted_between_samples_in_range(rt: HostRuntime) -> Result<(), Fail> {
+    let shown = dry_shows(
+        &rt,
+        b"pulse 1\nsample 616209500 596985625\npulse 1\nsample 0 596985625\npulse 1\n",
+    )?;
+    assert_eq!(&rt; shown.len(), 5);
+    let (_, _, energy, bound) = shown[2];
+    assert_eq!(&rt; shown[0], (1, 10, 0, 0));
+    assert_eq!(&rt; shown[1], (2, 10, 0, 0));
+    assert_eq!(&rt; shown[2], (3, 20, energy, bound));
+    assert_eq!(&rt; shown[3], (4, 20, energy, bound));
+    assert_eq!(&rt; shown[4], (5, 30, energy, bound));
+    assert!(&rt; 410_000_000 <= energy && energy <= 417_000_000);
+    Ok(())
+}
+
+#[test]
+fn pulses_of_one_line_are_counted_together(rt: HostRuntime) -> Result<(), Fail> {
+    let shown = dry_shows(&rt, b"sample 616209500 596985625\npulse 100\n")?;
+    assert_eq!(&rt; shown.len(), 2);
+    let (_, _, energy, bound) = shown[1];
+    assert_eq!(&rt; shown[0], (1, 0, 0, 0));
+    assert_eq!(&rt; shown[1], (2, 1000, energy, bound));
+    assert!(&rt; 41_000_000_000 <= energy && energy <= 41_700_000_000);
+    assert!(&rt; bound <= 1_500_000);
+    Ok(())
+}
+
+// The flow is 9,999 and then 10,000 microdegrees warmer than the return.
+#[test]
+fn energy_is_counted_from_a_hundredth_of_a_degree_on(rt: HostRuntime) -> Result<(), Fail> {
+    let shown = dry_shows(
+        &rt,
+        b"sample 597004877 596985625\npulse 1\nsample 597004878 596985625\npulse 1\n",
+    )?;
+    assert_eq!(&rt; shown.len(), 4);
+    let (_, _, energy, bound) = shown[3];
+    assert_eq!(&rt; shown[0], (1, 0, 0, 0));
+    assert_eq!(&rt; shown[1], (2, 10, 0, 0));
+    assert_eq!(&rt; shown[2], (3, 10, 0, 0));
+    assert_eq!(&rt; shown[3], (4, 20, energy, bound));
+    assert!(&rt; 300_000 <= energy && energy <= 520_000);
+    assert!(&rt; bound <= 15_000);
+    Ok(())
+}
+
 #[test]
 fn lines_are_refused(rt: HostRuntime) -> Result<(), Fail> {
     assert_eq!(&rt;
@@ -76,11 +155,17 @@ fn lines_are_refused(rt: HostRuntime) -> Result<(), Fail> {
             }
         }
     );
+    let in_force = day_of(2024, 1, 15).ok_or("no date")?;
     assert_eq!(&rt;
-        dry_answers(&rt, b"pulse 3\nsample 1 1\n", 64, b"ok 1 30 0 0\n")?,
+        dry_answers(
+            &rt,
+            b"date 2024-01-15\ndate 2024-01-14\n",
+            64,
+            b"ok 1 0 0 0\n"
+        )?,
         Status::Line {
             n: 2,
-            kind: LineFault::Grammar { at: 0 }
+            kind: LineFault::DateBack { in_force }
         }
     );
     for (script, at) in [
@@ -273,7 +358,8 @@ fn words_are_tested(rt: HostRuntime) {
 }
 
 #[test]
-fn statuses_have_texts(rt: HostRuntime) {
+fn statuses_have_texts(rt: HostRuntime) -> Result<(), Fail> {
+    let in_force = day_of(2024, 1, 15).ok_or("no date")?;
     for (status, code, text) in [
         (Status::Done, 0, ""),
         (Status::Usage { word: 1 }, 2, "usage: word 1"),
@@ -284,6 +370,24 @@ fn statuses_have_texts(rt: HostRuntime) {
             },
             4,
             "line 2: word 0",
+        ),
+        (
+            Status::Line {
+                n: 2,
+                kind: LineFault::DateBack { in_force },
+            },
+            4,
+            "line 2: date before 2024-01-15",
+        ),
+        (
+            Status::Line {
+                n: 7,
+                kind: LineFault::EventsFull {
+                    seq: 1_000_000_000_000_000_000,
+                },
+            },
+            4,
+            "line 7: events 1000000000000000000",
         ),
         (
             Status::Line {
@@ -300,4 +404,5 @@ fn statuses_have_texts(rt: HostRuntime) {
         assert_eq!(&rt; status_code(&status), code);
         assert_eq!(&rt; status_line(&status).as_str(), text);
     }
+    Ok(())
 }

@@ -1,12 +1,11 @@
 //! What the program does.
 ghost use Rattle.std.specs.Prelude.{◌≡◌, ◌⊎◌, ◌↔◌, ℕ, [], Ok, Err};
-ghost use Rattle.metering_model.specs.Records.{zero_record};
 ghost use Rattle.script_model.specs.Lines.{lines_of};
 ghost use Rattle.trace_model.specs.Trace.{IsFresh};
 ghost use Rattle.trace_model.specs.Output.{PutsAlone};
 ghost use Rattle.journal_model.specs.Pairing.{NoneRefused};
 ghost use Rattle.meter_board.specs.Causes.{Rose};
-ghost use Rattle.run_engine.specs.Dry.{dry_settings};
+ghost use Rattle.run_engine.specs.Dry.{dry_opening, dry_settings};
 ghost use Rattle.meter_cli.specs.Coef.{CoefLeaves};
 ghost use Rattle.meter_cli.specs.Command.{PutsOneLine, command_of, texts};
 ghost use Rattle.meter_cli.specs.Status.{DryLeaves, status_of};
@@ -39,7 +38,7 @@ pub fn meter<S: Source, B: Board>(
 
     // What `dry` leaves, and when it must answer Done.
     ensures dry { command_of (texts words.now) ≡ Ok Job.Dry → S.tells → B.tells → DryLeaves (S.left source.old) (B.trace board.new) result }
-    ensures complete { command_of (texts words.now) ≡ Ok Job.Dry → S.tells → B.tells → NoneRefused dry_settings zero_record (lines_of (S.left source.old)) → ¬ Rose (S.faults source.old) (S.faults source.new) → ¬ Rose (B.output_faults board.old) (B.output_faults board.new) → (result ≡ Status.Done) ⊎ (result ≡ Status.OutOfMemory) }
+    ensures complete { command_of (texts words.now) ≡ Ok Job.Dry → S.tells → B.tells → NoneRefused dry_settings dry_opening (lines_of (S.left source.old)) → ¬ Rose (S.faults source.old) (S.faults source.new) → ¬ Rose (B.output_faults board.old) (B.output_faults board.new) → (result ≡ Status.Done) ⊎ (result ≡ Status.OutOfMemory) }
     ensures end { command_of (texts words.now) ≡ Ok Job.Dry → S.tells → B.tells → result ≡ Status.Done → S.left source.new ≡ [] }
 
     // The commands that put one line read nothing, and are done unless the output failed.
