@@ -1,6 +1,9 @@
 pub mod Causes
 pub mod Reads
 pub mod Puts
+pub mod Stores
 pub mod Slice
 pub mod Told
+pub mod Histories
 pub mod Sim
+pub mod SimLaws

@@ -1,20 +1,41 @@
 -- What a contract sees of a board in memory.
-use Rattle.std.specs.Prelude.{◌≡◌, ℕ, ◌+◌, ◌/◌, ◌<◌, ◌≤◌, List, Any, length, take, vec_len}
-use Rattle.trace_model.specs.Trace.{Trace, Start, Put, ◌▷◌}
+use Rattle.std.specs.Prelude.{◌≡◌, ℕ, ◌/◌, List, Any, length, take}
+use Rattle.trace_model.specs.Trace.{Entry, Store, Sync, Missed, Put, Arm, Cut, Trace, ◌▷◌}
 use Rattle.meter_board.specs.declared.sim_board.Call.{Call}
+use Rattle.meter_board.specs.declared.sim_board.CallKind.{CallKind}
 use Rattle.meter_board.specs.declared.sim_board.CallKind.TheVariants as kind
 use Rattle.meter_board.specs.declared.sim_board.SimBoard.{SimBoard}
 use Rattle.meter_board.specs.declared.sim_board.Output.{Output}
 use Rattle.meter_board.specs.Causes.{one_more}
-use Rattle.meter_board.specs.Told.{told}
+use Rattle.meter_board.specs.Histories.{HistoryHasRoom, history_trace}
 
 abbrev pub sim_trace : SimBoard → Trace
-sim_trace b = told (Start b.base.items) b.marks.items b.output.items
+sim_trace b = history_trace b.history
+
+-- what the memory reads now
+abbrev pub sim_reads : SimBoard → List ℕ
+sim_reads b = b.memory.items
+
+abbrev pub sim_memory_faults : SimBoard → ℕ
+sim_memory_faults b = b.memory_faults
 
 abbrev pub sim_output_faults : SimBoard → ℕ
 sim_output_faults b = b.output_faults
 
--- how many puts there were
+-- its power never fails
+abbrev pub sim_cuts : SimBoard → ℕ
+sim_cuts b = 0
+
+-- how many calls there were of each kind
+abbrev pub sim_loads : SimBoard → ℕ
+sim_loads b = b.loads
+
+abbrev pub sim_stores : SimBoard → ℕ
+sim_stores b = b.stores
+
+abbrev pub sim_syncs : SimBoard → ℕ
+sim_syncs b = b.syncs
+
 abbrev pub sim_puts : SimBoard → ℕ
 sim_puts b = b.puts
 
@@ -24,39 +45,70 @@ sim_failing b = b.failing.items
 
 -- the room for entries, and for their bytes, of which some may be spent
 abbrev pub sim_entry_room : SimBoard → ℕ
-sim_entry_room b = b.entry_room
+sim_entry_room b = b.history.entry_room
 
 abbrev pub sim_byte_room : SimBoard → ℕ
-sim_byte_room b = b.byte_room
+sim_byte_room b = b.history.byte_room
 
--- an entry of so many bytes fits
-pub record HasRoom (b : SimBoard) (count : ℕ) : Type 0 where
-  pub entries : vec_len b.marks < b.entry_room
-  pub bytes : vec_len b.output + count ≤ b.byte_room
+-- how many bytes an entry has
+abbrev pub entry_size : Entry → ℕ
+entry_size (Store at bytes) = length bytes
+entry_size Sync = 0
+entry_size Missed = 0
+entry_size (Put bytes) = length bytes
+entry_size (Arm n keep fill) = 0
+entry_size (Cut forced image) = length image
 
--- the next put is one that fails
+abbrev pub HasRoom : SimBoard → Entry → Type 0
+HasRoom b e = HistoryHasRoom b.history (entry_size e)
+
+-- the call of this kind and number is one that fails
+abbrev pub IsFailing : SimBoard → CallKind → ℕ → Type 0
+IsFailing b k number = Any (λ (call : Call). (call.kind ≡ k) × (call.number ≡ number)) (sim_failing b)
+
+-- the next call of each kind is one that fails
+abbrev pub FailsLoad : SimBoard → Type 0
+FailsLoad b = IsFailing b kind.Load (one_more (sim_loads b))
+
+abbrev pub FailsStore : SimBoard → Type 0
+FailsStore b = IsFailing b kind.Store (one_more (sim_stores b))
+
+abbrev pub FailsSync : SimBoard → Type 0
+FailsSync b = IsFailing b kind.Sync (one_more (sim_syncs b))
+
 abbrev pub FailsPut : SimBoard → Type 0
-FailsPut b = Any (λ (call : Call). (call.kind ≡ kind.Put) × (call.number ≡ one_more (sim_puts b))) (sim_failing b)
+FailsPut b = IsFailing b kind.Put (one_more (sim_puts b))
 
--- a put of these bytes fits, and is not one that fails
-pub record IsPut (b : SimBoard) (bytes : List ℕ) : Type 0 where
-  pub room : HasRoom b (length bytes)
-  pub whole : FailsPut b → ⊥
+-- a call that adds this entry succeeds: the entry fits, and the call is not one that fails
+pub record Adds (b : SimBoard) (e : Entry) (fails : Type 0) : Type 0 where
+  pub room : HasRoom b e
+  pub whole : fails → ⊥
+
+-- the trace after a call that failed: where the call is one that fails it added this entry, where there was room for it
+pub record FailsAsTold (old : SimBoard) (e : Entry) (fails : Type 0) (new : Trace) : Type 0 where
+  pub told : fails → HasRoom old e → new ≡ sim_trace old ▷ e
+  pub spent : (HasRoom old e → ⊥) → new ≡ sim_trace old
+  pub full : (fails → ⊥) → new ≡ sim_trace old
 
 -- the first half of some bytes, rounded down
 abbrev pub half_of : List ℕ → List ℕ
 half_of bytes = take (length bytes / 2) bytes
 
--- the trace after a put of these bytes that fails: their first half went out where the put is one that fails and there is room
-pub record FailsAsTold (old : SimBoard) (bytes : List ℕ) (new : Trace) : Type 0 where
-  pub half : FailsPut old → HasRoom old (length bytes / 2) → new ≡ sim_trace old ▷ Put (half_of bytes)
-  pub spent : (HasRoom old (length bytes / 2) → ⊥) → new ≡ sim_trace old
-  pub full : (FailsPut old → ⊥) → new ≡ sim_trace old
+-- what no call changes
+pub record RoomsAsBefore (old new : SimBoard) : Type 0 where
+  pub failing : sim_failing new ≡ sim_failing old
+  pub entry_room : sim_entry_room new ≡ sim_entry_room old
+  pub byte_room : sim_byte_room new ≡ sim_byte_room old
 
 -- all but the calls that fail
 pub record BoardAsBefore (old new : SimBoard) : Type 0 where
   pub trace : sim_trace new ≡ sim_trace old
+  pub reads : sim_reads new ≡ sim_reads old
+  pub memory_faults : sim_memory_faults new ≡ sim_memory_faults old
   pub output_faults : sim_output_faults new ≡ sim_output_faults old
+  pub loads : sim_loads new ≡ sim_loads old
+  pub stores : sim_stores new ≡ sim_stores old
+  pub syncs : sim_syncs new ≡ sim_syncs old
   pub puts : sim_puts new ≡ sim_puts old
   pub entry_room : sim_entry_room new ≡ sim_entry_room old
   pub byte_room : sim_byte_room new ≡ sim_byte_room old

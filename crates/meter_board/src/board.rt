@@ -1,20 +1,66 @@
-ghost use Rattle.std.specs.Prelude.{ℕ, ◌<◌, length};
-ghost use Rattle.trace_model.specs.Trace.{Trace};
-ghost use Rattle.meter_board.specs.Causes.{HasCause};
+ghost use Rattle.std.specs.Prelude.{◌≡◌, ℕ, ◌+◌, ◌<◌, ◌≤◌, List, length, take, drop, OnOk};
+ghost use Rattle.trace_model.specs.Trace.{Trace, base_of};
+ghost use Rattle.trace_model.specs.Images.{IsImage};
+ghost use Rattle.meter_board.specs.Causes.{HasCause, HasCauses};
 ghost use Rattle.meter_board.specs.Puts.{PutGives};
+ghost use Rattle.meter_board.specs.Stores.{StoreGives, SyncGives};
 
-use crate::Failed;
+use crate::{Failed, Refusal};
 
-/// The board of a meter: its output.
+/// The board of a meter: a memory of 16,384 bytes, and its output.
 pub trait Board {
-    /// Whether boards of this type tell their trace. Where it does not hold, nothing is known of it.
+    /// Whether boards of this type tell their trace and what they read. Where it does not hold, nothing is known
+    /// of these.
     ghost tells: { Type 0 };
 
     /// What happened to the board since it was handed in.
     ghost trace: { Self → Trace };
 
+    /// The 16,384 bytes that the memory reads now.
+    ghost reads: { Self → List ℕ };
+
+    /// How many calls on the memory have failed, up to 2^64 - 1.
+    ghost memory_faults: { Self → ℕ };
+
     /// How many puts have failed, up to 2^64 - 1.
     ghost output_faults: { Self → ℕ };
+
+    /// How many calls on the memory were cut by a power failure, up to 2^64 - 1.
+    ghost cuts: { Self → ℕ };
+
+    /// Reads the bytes of the memory from `at` on into `into`.
+    ///
+    /// # Errors
+    /// [`Failed`] where the memory failed: the count of memory faults rose, and `into` may hold anything.
+    fn load(&mut self, at: u32, into: &mut [u8]) -> Result<(), Failed>
+        requires { at + length into.old ≤ 16384 }
+        ensures bytes { tells → OnOk result (into.new ≡ take (length into.old) (drop at (reads self.old))) }
+        ensures trace { tells → trace self.new ≡ trace self.old }
+        ensures reads { tells → reads self.new ≡ reads self.old }
+        ensures cause { HasCause (memory_faults self.old) (memory_faults self.new) result }
+        ensures output_faults { output_faults self.old ≤ output_faults self.new }
+        ensures cuts { cuts self.old ≤ cuts self.new };
+
+    /// Stores these bytes in the memory from `at` on. They are settled by the next [`Board::sync`].
+    ///
+    /// # Errors
+    /// [`Refusal::Failed`] where the memory failed: nothing was stored, or any bytes stand in the range now, and
+    /// the count of memory faults rose. [`Refusal::Cut`] where the power failed, and the count of cuts rose.
+    fn store(&mut self, at: u32, bytes: &[u8]) -> Result<(), Refusal>
+        requires { at + length bytes.now ≤ 16384 }
+        ensures gives { tells → StoreGives at bytes.now (trace self.old) (reads self.old) result (trace self.new) (reads self.new) }
+        ensures causes { HasCauses (memory_faults self.old) (memory_faults self.new) (cuts self.old) (cuts self.new) result }
+        ensures output_faults { output_faults self.old ≤ output_faults self.new };
+
+    /// Settles all that was stored.
+    ///
+    /// # Errors
+    /// [`Refusal::Failed`] where the memory failed: nothing more is settled than before, and the count of memory
+    /// faults rose. [`Refusal::Cut`] where the power failed, and the count of cuts rose.
+    fn sync(&mut self) -> Result<(), Refusal>
+        ensures gives { tells → SyncGives (trace self.old) (reads self.old) result (trace self.new) (reads self.new) }
+        ensures causes { HasCauses (memory_faults self.old) (memory_faults self.new) (cuts self.old) (cuts self.new) result }
+        ensures output_faults { output_faults self.old ≤ output_faults self.new };
 
     /// Puts these bytes out.
     ///
@@ -23,5 +69,14 @@ pub trait Board {
     fn put(&mut self, bytes: &[u8]) -> Result<(), Failed>
         requires { 0 < length bytes.now }
         ensures gives { tells → PutGives (trace self.old) bytes.now result (trace self.new) }
-        ensures cause { HasCause (output_faults self.old) (output_faults self.new) result };
+        ensures reads { tells → reads self.new ≡ reads self.old }
+        ensures cause { HasCause (output_faults self.old) (output_faults self.new) result }
+        ensures memory_faults { memory_faults self.old ≤ memory_faults self.new }
+        ensures cuts { cuts self.old ≤ cuts self.new };
+
+    /// The memory had its size when the board was handed in.
+    ghost whole: { (board : Self) → tells → length (base_of (trace board)) ≡ 16384 };
+
+    /// What the memory reads is one of the images that are possible.
+    ghost possible: { (board : Self) → tells → IsImage (trace board) (reads board) };
 }

@@ -1,29 +1,132 @@
 //! A board over a file and standard output.
-use crate::{Board, Failed};
+ghost use Rattle.std.specs.Prelude.{◌≡◌};
+
+use crate::counts::raise;
+use crate::{Board, Failed, Refusal};
+use std::fs::{OpenFile, OpenOptions};
+use std::io;
+use std::io::{ErrorKind, Read, Seek, SeekFrom, Write};
 use std::rt::Files;
 
+/// How many bytes the file has.
+const MEMORY_LEN: u64 = 16_384;
+
 /// A board whose memory is a file and whose output is standard output. It tells nothing of their bytes.
+///
+/// The first call on the memory opens the file, and makes one of zero bytes where there is none. A file of
+/// another length, a folder, and a file that can't be opened are memory faults, and are left as they are.
 #[derive(Drop)]
 pub struct FileBoard<'a, R: Files + Print> {
     rt: &'a R,
     path: &'a str,
+    file: Option<R::File>,
+    memory_faults: u64,
     output_faults: u64,
 }
 
 impl<'a, R: Files + Print> FileBoard<'a, R> {
-    ghost use Rattle.std.specs.Prelude.{◌≡◌};
-
     /// The board with its memory in the file at `path`, and the standard output of this runtime.
     pub fn at(rt: &'a R, path: &'a str) -> FileBoard<'a, R>
         ensures path { result.path.now ≡ path.now }
+        ensures memory_faults { result.memory_faults ≡ 0 }
         ensures output_faults { result.output_faults ≡ 0 }
     {
         FileBoard {
             rt,
             path,
+            file: None,
+            memory_faults: 0,
             output_faults: 0,
         }
     }
+
+    // The open file, which is to be given back.
+    fn take_file(&mut self) -> io::Result<R::File>
+        ensures memory_faults { self.new.memory_faults ≡ self.old.memory_faults }
+        ensures output_faults { self.new.output_faults ≡ self.old.output_faults }
+    {
+        match self.file.take() {
+            Some(file) => Ok(file),
+            None => open_memory(self.rt, self.path),
+        }
+    }
+
+    fn read_at(&mut self, at: u32, into: &mut [u8]) -> io::Result<()>
+        ensures memory_faults { self.new.memory_faults ≡ self.old.memory_faults }
+        ensures output_faults { self.new.output_faults ≡ self.old.output_faults }
+    {
+        let mut file = self.take_file()?;
+        let answer = read_whole(&mut file, at, into);
+        self.file = Some(file);
+        answer
+    }
+
+    fn write_at(&mut self, at: u32, bytes: &[u8]) -> io::Result<()>
+        ensures memory_faults { self.new.memory_faults ≡ self.old.memory_faults }
+        ensures output_faults { self.new.output_faults ≡ self.old.output_faults }
+    {
+        let mut file = self.take_file()?;
+        let answer = write_whole(&mut file, at, bytes);
+        self.file = Some(file);
+        answer
+    }
+
+    fn write_back(&mut self) -> io::Result<()>
+        ensures memory_faults { self.new.memory_faults ≡ self.old.memory_faults }
+        ensures output_faults { self.new.output_faults ≡ self.old.output_faults }
+    {
+        let file = self.take_file()?;
+        let answer = file.sync_all();
+        self.file = Some(file);
+        answer
+    }
+}
+
+// Opens the file of a memory, and makes it where there is none.
+fn open_memory<R: Files>(rt: &R, path: &str) -> io::Result<R::File> {
+    let mut how = OpenOptions::new();
+    how.read(true).write(true);
+    match how.open(rt, path) {
+        Ok(file) => {
+            if file.metadata()?.len() != MEMORY_LEN {
+                return Err(io::Error::from(ErrorKind::InvalidData));
+            }
+            Ok(file)
+        }
+        Err(error) if error.kind() == ErrorKind::NotFound => {
+            how.create_new(true);
+            let file = how.open(rt, path)?;
+            file.set_len(MEMORY_LEN)?;
+            Ok(file)
+        }
+        Err(error) => Err(error),
+    }
+}
+
+fn read_whole<F: Read + Seek>(file: &mut F, at: u32, into: &mut [u8]) -> io::Result<()> {
+    file.seek(SeekFrom::Start(u64::from(at)))?;
+    let mut done = 0;
+    while done < into.len() {
+        let count = file.read(&mut into[done..])?;
+        if count == 0 {
+            return Err(io::Error::from(ErrorKind::UnexpectedEof));
+        }
+        done += count;
+    }
+    Ok(())
+}
+
+fn write_whole<F: Write + Seek>(file: &mut F, at: u32, bytes: &[u8]) -> io::Result<()> {
+    file.seek(SeekFrom::Start(u64::from(at)))?;
+    let mut rest = bytes;
+    while !rest.is_empty() {
+        let count = file.write(rest)?;
+        if count == 0 {
+            return Err(io::Error::from(ErrorKind::WriteZero));
+        }
+        rest = &rest[count..];
+    }
+    Ok(())
 }
 
 impl<R: Files + Print> Board for FileBoard<'_, R> {
@@ -34,7 +137,43 @@ impl<R: Files + Print> Board for FileBoard<'_, R> {
 
     ghost trace = { λ _. Start [] };
 
+    ghost reads = { λ _. [] };
+
+    ghost memory_faults = { λ b. b.memory_faults };
+
     ghost output_faults = { λ b. b.output_faults };
+
+    ghost cuts = { λ _. 0 };
+
+    fn load(&mut self, at: u32, into: &mut [u8]) -> Result<(), Failed> {
+        match self.read_at(at, into) {
+            Ok(()) => Ok(()),
+            Err(_) => {
+                raise(&mut self.memory_faults);
+                Err(Failed)
+            }
+        }
+    }
+
+    fn store(&mut self, at: u32, bytes: &[u8]) -> Result<(), Refusal> {
+        match self.write_at(at, bytes) {
+            Ok(()) => Ok(()),
+            Err(_) => {
+                raise(&mut self.memory_faults);
+                Err(Refusal::Failed)
+            }
+        }
+    }
+
+    fn sync(&mut self) -> Result<(), Refusal> {
+        match self.write_back() {
+            Ok(()) => Ok(()),
+            Err(_) => {
+                raise(&mut self.memory_faults);
+                Err(Refusal::Failed)
+            }
+        }
+    }
 
     fn put(&mut self, bytes: &[u8]) -> Result<(), Failed> {
         let mut rest = bytes;
@@ -42,11 +181,15 @@ impl<R: Files + Print> Board for FileBoard<'_, R> {
             match self.rt.write_some(rest) {
                 Ok(count) if count > 0 => rest = &rest[count..],
                 _ => {
-                    self.output_faults = self.output_faults.saturating_add(1);
+                    raise(&mut self.output_faults);
                     return Err(Failed);
                 }
             }
         }
         Ok(())
     }
+
+    ghost whole = { λ _ tells. absurd tells };
+
+    ghost possible = { λ _ tells. absurd tells };
 }

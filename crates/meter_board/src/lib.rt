@@ -1,12 +1,15 @@
-//! The outside of the meter: what it reads from, and the board that it works on.
+//! The outside of the meter: what it reads from, and the board that it works on, with its memory and output.
 //!
 //! Both are traits, so that a contract can speak of every source and every board, of those in
 //! memory, which tell all that happens to them, and of standard input and files, which tell nothing.
 #![tactic(auto)]
 
 mod board;
+mod counts;
 mod file_board;
+mod history;
 mod mark;
+mod refusal;
 mod sim_board;
 mod slice_source;
 mod source;
@@ -16,6 +19,7 @@ mod tests;
 
 pub use board::Board;
 pub use file_board::FileBoard;
+pub use refusal::Refusal;
 pub use sim_board::{Call, CallKind, Output, SimBoard};
 pub use slice_source::SliceSource;
 pub use source::{Failed, Source};

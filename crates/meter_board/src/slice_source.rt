@@ -3,6 +3,7 @@ ghost use Rattle.std.specs.Prelude.{◌≡◌, ◌<◌, ◌≤◌, ◌↔◌, []
 ghost use Rattle.meter_board.specs.Causes.{HasCause, one_more};
 ghost use Rattle.meter_board.specs.Reads.{ReadGives};
 
+use crate::counts::raise;
 use crate::{Failed, Source};
 use arrayvec::ArrayVec;
 
@@ -91,9 +92,9 @@ impl Source for SliceSource<'_> {
         ensures failing { slice_failing self.new ≡ slice_failing self.old }
         ensures piece { slice_piece self.new ≡ slice_piece self.old }
     {
-        self.reads = self.reads.saturating_add(1);
+        raise(&mut self.reads);
         if self.fails_now() {
-            self.faults = self.faults.saturating_add(1);
+            raise(&mut self.faults);
             return Err(Failed);
         }
         let count = self.piece.min(into.len()).min(self.rest.len());

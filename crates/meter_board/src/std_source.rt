@@ -1,4 +1,5 @@
 //! Standard input.
+use crate::counts::raise;
 use crate::{Failed, Source};
 use std::io::Read;
 
@@ -38,7 +39,7 @@ impl<R: Input> Source for StdSource<'_, R> {
         match self.reader.read(into) {
             Ok(count) => Ok(count),
             Err(_) => {
-                self.faults = self.faults.saturating_add(1);
+                raise(&mut self.faults);
                 Err(Failed)
             }
         }

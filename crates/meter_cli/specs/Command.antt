@@ -1,13 +1,15 @@
 -- The words of the command line.
-use Rattle.std.specs.Prelude.{◌≡◌, ◌≤◌, ℕ, Bool, List, [], ◌∷◌, cond, nat_eq, codes, map, Option, Some, None, Result, Ok, Err, MatchResult}
+use Rattle.std.specs.Prelude.{◌≡◌, ◌≤◌, ◌+◌, ◌-◌, ℕ, Bool, List, [], ◌∷◌, cond, nat_eq, nat_le, codes, map, Option, Some, None, Result, Ok, Err, MatchResult}
 use Rattle.std.specs.Cmp.Lexicographic.{pointwise}
 use Rattle.std.specs.Borrow.{Bor}
 use Rattle.script_model.specs.Numbers.{number_in}
 use Rattle.script_model.specs.Grammar.{◌>>=◌, word_at, end_at}
 use Rattle.pt_curve.specs.declared.sensor.Sensor.{Sensor}
 use Rattle.pt_curve.specs.declared.sensor.Sensor.TheVariants.{Pt100, Pt500, Pt1000}
+use Rattle.sensor_pair.specs.declared.place.Place.{Place}
+use Rattle.sensor_pair.specs.declared.place.Place.TheVariants.{Flow, Return}
 use Rattle.meter_cli.specs.declared.job.Job.{Job}
-use Rattle.meter_cli.specs.declared.job.Job.TheVariants.{Dry, Temp, Water}
+use Rattle.meter_cli.specs.declared.job.Job.TheVariants.{Dry, Temp, Water, Coef}
 use Rattle.meter_cli.specs.declared.job.Usage.{Usage}
 
 -- the word is this text
@@ -30,10 +32,23 @@ temp_words words = word_at 1 sensor_of words >>= λ sensor. word_at 2 (number_in
 abbrev pub water_words : List (List ℕ) → Result Job ℕ
 water_words words = word_at 1 (number_in 1100 4000) words >>= λ p. word_at 2 (number_in 0 180000000) p.1 >>= λ t. end_at 3 (Water p.0 t.0) t.1
 
+-- the pipe in which the flow sensor sits
+abbrev pub place_of : List ℕ → Option Place
+place_of word = cond (is_text (codes "flow") word) (Some Flow) (cond (is_text (codes "return") word) (Some Return) None)
+
+-- the temperature in the return, at least 10,000 microdegrees below that in the flow
+abbrev pub return_in : ℕ → List ℕ → Option ℕ
+return_in tf word = cond (nat_le 10000 tf) (number_in 0 (tf - 10000) word) None
+
+-- `k PLACE P TF TR`, from 1,100 to 4,000 kPa and, in the flow, from 0 to 180,000,000 microdegrees
+abbrev pub coef_words : List (List ℕ) → Result Job ℕ
+coef_words words =
+    word_at 1 place_of words >>= λ place. word_at 2 (number_in 1100 4000) place.1 >>= λ p. word_at 3 (number_in 0 180000000) p.1 >>= λ tf. word_at 4 (return_in tf.0) tf.1 >>= λ tr. end_at 5 (Coef place.0 p.0 tf.0 tr.0) tr.1
+
 -- the command that words say, or the place of the first wrong, missing or extra word, from 0
 abbrev pub command_of : List (List ℕ) → Result Job ℕ
 command_of [] = Err 0
-command_of (name ∷ words) = cond (is_text (codes "dry") name) (end_at 1 Dry words) (cond (is_text (codes "temp") name) (temp_words words) (cond (is_text (codes "water") name) (water_words words) (Err 0)))
+command_of (name ∷ words) = cond (is_text (codes "dry") name) (end_at 1 Dry words) (cond (is_text (codes "temp") name) (temp_words words) (cond (is_text (codes "water") name) (water_words words) (cond (is_text (codes "k") name) (coef_words words) (Err 0))))
 
 -- the texts of the words
 abbrev pub texts : List (Bor (List ℕ)) → List (List ℕ)
@@ -48,12 +63,14 @@ abbrev pub IsInRange : Job → Type 0
 IsInRange Dry = Unit {0}
 IsInRange (Temp sensor r) = r ≤ 4294967295
 IsInRange (Water p t) = (1100 ≤ p) × (p ≤ 4000) × (t ≤ 180000000)
+IsInRange (Coef place p tf tr) = (1100 ≤ p) × (p ≤ 4000) × (tr + 10000 ≤ tf) × (tf ≤ 180000000)
 
 -- a command that reads nothing and puts one line
 abbrev pub PutsOneLine : Job → Type 0
 PutsOneLine Dry = ⊥
 PutsOneLine (Temp sensor r) = Unit {0}
 PutsOneLine (Water p t) = Unit {0}
+PutsOneLine (Coef place p tf tr) = Unit {0}
 
 -- the words begin with this one, where there is one
 abbrev pub BeginsWith : List (List ℕ) → Option (Bor (List ℕ) × Bor (List (Bor (List ℕ)))) → Type 0

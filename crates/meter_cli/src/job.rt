@@ -1,10 +1,11 @@
 //! The words of the command line.
-ghost use Rattle.std.specs.Prelude.{◌≡◌, IfOk};
+ghost use Rattle.std.specs.Prelude.{◌≡◌, ◌+◌, ◌≤◌, IfOk, IfSome};
 ghost use Rattle.script_model.specs.Grammar.{end_at};
-ghost use Rattle.meter_cli.specs.Command.{BeginsWith, IsInRange, Says, command_of, sensor_of, temp_words, texts, water_words};
+ghost use Rattle.meter_cli.specs.Command.{BeginsWith, IsInRange, Says, coef_words, command_of, place_of, return_in, sensor_of, temp_words, texts, water_words};
 
 use event_script::number_word;
 use pt_curve::Sensor;
+use sensor_pair::Place;
 use thiserror::Error;
 
 /// A command.
@@ -13,10 +14,24 @@ pub enum Job {
     /// `dry`: meter the events of a script without a memory.
     Dry,
     /// `temp R0 R`: the whole temperature that a sample of `r` microohms of this sensor stands for.
-    Temp { sensor: Sensor, r: u32 },
+    Temp {
+        sensor: Sensor,
+        r: u32,
+    },
     /// `water P T`: the specific volume and enthalpy of water at `p_kpa` kPa, 1,100 to 4,000, and `t_udeg`
     /// microdegrees Celsius, 0 to 180,000,000.
-    Water { p_kpa: u32, t_udeg: u32 },
+    Water {
+        p_kpa: u32,
+        t_udeg: u32,
+    },
+    /// `k PLACE P TF TR`: the heat coefficient at `p_kpa` kPa, 1,100 to 4,000, with `tf_udeg` microdegrees
+    /// Celsius in the flow, at most 180,000,000, and `tr_udeg` in the return, at least 10,000 fewer.
+    Coef {
+        place: Place,
+        p_kpa: u32,
+        tf_udeg: u32,
+        tr_udeg: u32,
+    },
 }
 
 /// The words are no command, with the place of the first wrong, missing or extra word, counted from 0.
@@ -37,6 +52,9 @@ const MAX_PRESSURE: u64 = 4_000;
 /// The highest temperature of water, in microdegrees Celsius.
 const MAX_TEMPERATURE: u64 = 180_000_000;
 
+/// The least difference of the temperatures of a heat coefficient, in microdegrees.
+const MIN_DIFFERENCE: u64 = 10_000;
+
 /// The command that the words after the program's name say.
 ///
 /// # Errors
@@ -54,6 +72,8 @@ pub fn command(words: &[&str]) -> Result<Job, Usage>
         temp(rest)
     } else if name.as_bytes() == b"water".as_slice() {
         water(rest)
+    } else if name.as_bytes() == b"k".as_slice() {
+        coef(rest)
     } else {
         Err(Usage { word: 0 })
     }
@@ -122,6 +142,46 @@ fn water(words: &[&str]) -> Result<Job, Usage>
     }
 }
 
+// The words after `k`.
+fn coef(words: &[&str]) -> Result<Job, Usage>
+    ensures says { Says result (coef_words (texts words.now)) }
+    ensures range { IfOk result IsInRange }
+{
+    let Some((word, words)) = first_of(words) else {
+        return Err(Usage { word: 1 });
+    };
+    let Some(place) = place(word.as_bytes()) else {
+        return Err(Usage { word: 1 });
+    };
+    let Some((word, words)) = first_of(words) else {
+        return Err(Usage { word: 2 });
+    };
+    let Some(pressure) = number_word(word.as_bytes(), MIN_PRESSURE, MAX_PRESSURE) else {
+        return Err(Usage { word: 2 });
+    };
+    let Some((word, words)) = first_of(words) else {
+        return Err(Usage { word: 3 });
+    };
+    let Some(tf) = number_word(word.as_bytes(), 0, MAX_TEMPERATURE) else {
+        return Err(Usage { word: 3 });
+    };
+    let Some((word, words)) = first_of(words) else {
+        return Err(Usage { word: 4 });
+    };
+    let Some(tr) = return_word(word.as_bytes(), tf) else {
+        return Err(Usage { word: 4 });
+    };
+    match first_of(words) {
+        Some(_) => Err(Usage { word: 5 }),
+        None => Ok(Job::Coef {
+            place,
+            p_kpa: pressure as u32,
+            tf_udeg: tf as u32,
+            tr_udeg: tr as u32,
+        }),
+    }
+}
+
 // The first word, and those after it.
 fn first_of<'a, 'b>(words: &'b [&'a str]) -> Option<(&'a str, &'b [&'a str])>
     ensures { BeginsWith (texts words.now) result }
@@ -143,4 +203,25 @@ fn sensor(word: &[u8]) -> Option<Sensor>
     } else {
         None
     }
+}
+
+// The pipe in which the flow sensor sits.
+fn place(word: &[u8]) -> Option<Place>
+    ensures { result ≡ place_of word.now }
+{
+    if word == b"flow".as_slice() {
+        Some(Place::Flow)
+    } else if word == b"return".as_slice() {
+        Some(Place::Return)
+    } else {
+        None
+    }
+}
+
+// The temperature in the return, where the flow has `tf` microdegrees Celsius.
+fn return_word(word: &[u8], tf: u64) -> Option<u64>
+    ensures value { result ≡ return_in tf word.now }
+    ensures range { IfSome result (λ n. n + 10000 ≤ tf) }
+{
+    number_word(word, 0, tf.checked_sub(MIN_DIFFERENCE)?)
 }

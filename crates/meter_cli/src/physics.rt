@@ -1,25 +1,32 @@
-//! The commands on one sample of a sensor, and on water at one pressure and temperature.
-ghost use Rattle.std.specs.Prelude.{◌≡◌, ◌⊎◌, ◌*◌, ◌+◌, ◌^◌, ◌<◌, ◌≤◌, ◌++◌, pos, ◌*ℤ◌, ◌≤ℤ◌, length, codes};
+//! The commands on one sample of a sensor, and on water at one pressure and at one or two temperatures.
+ghost use Rattle.std.specs.Prelude.{◌≡◌, ◌⊎◌, ◌*◌, ◌+◌, ◌-◌, ◌^◌, ◌<◌, ◌≤◌, ◌++◌, pos, ◌*ℤ◌, ◌≤ℤ◌, length, codes};
 ghost use Rattle.std.specs.Fmt.{signed_decimal};
 ghost use Rattle.number_model.specs.Rounding.{floor_div, ceil_div};
 ghost use Rattle.meter_board.specs.Causes.{Rose};
+ghost use Rattle.sensor_pair.specs.Place.{place_view};
+ghost use Rattle.meter_cli.specs.Coef.{CoefLeaves, IsCoefText};
 ghost use Rattle.meter_cli.specs.Temp.{IsTempText, TempLeaves, element_of};
 ghost use Rattle.meter_cli.specs.Water.{IsWaterText, WaterLeaves};
 
 use crate::one_line::put_line;
 use crate::status::Status;
 use arrayvec::ArrayString;
+use heat_coeff::{Factor, coeff};
 use if97_region1::Water;
 use interval_num::{Enc, Span};
 use itoa::Buffer;
 use meter_board::Board;
 use pt_curve::{Curve, Sensor};
+use sensor_pair::Place;
 
 /// The room of a line of `temp`.
 const TEMP_ROOM: usize = 48;
 
 /// The room of a line of `water`.
 const WATER_ROOM: usize = 176;
+
+/// The room of a line of `k`.
+const COEF_ROOM: usize = 88;
 
 /// The units of a line of `water` in one m³/kg, and in one kJ/kg.
 const VOLUME_UNITS: i128 = 1_000_000_000_000_000;
@@ -127,6 +134,48 @@ fn ends_line(v: Ends, h: Ends) -> ArrayString<WATER_ROOM>
     line.push_str(digits.format(h.lo));
     line.push_str(" ");
     line.push_str(digits.format(h.hi));
+    line.push_str("\n");
+    line
+}
+
+/// Puts the ends of the heat coefficient of EN 1434-1, in 10^-6 kJ/(m³ K), of water at 1,100 to 4,000 kPa
+/// between two temperatures in microdegrees Celsius: the flow's is at most 180,000,000 and at least 10,000
+/// above the return's.
+pub fn coef<B: Board>(board: &mut B, place: Place, p_kpa: u32, tf_udeg: u32, tr_udeg: u32) -> Status
+    requires low { 1100 ≤ p_kpa }
+    requires high { p_kpa ≤ 4000 }
+    requires apart { tr_udeg + 10000 ≤ tf_udeg }
+    requires temperature { tf_udeg ≤ 180000000 }
+    ensures leaves { B.tells → CoefLeaves place p_kpa tf_udeg tr_udeg (B.trace board.old) (B.trace board.new) result }
+    ensures write { result ≡ Status.Write → Rose (B.output_faults board.old) (B.output_faults board.new) }
+    ensures kind { (result ≡ Status.Done) ⊎ (result ≡ Status.Write) }
+{
+    let line = coef_line(place, p_kpa, tf_udeg, tr_udeg);
+    put_line(board, line.as_str().as_bytes())
+}
+
+fn coef_line(place: Place, p_kpa: u32, tf_udeg: u32, tr_udeg: u32) -> ArrayString<COEF_ROOM>
+    requires low { 1100 ≤ p_kpa }
+    requires high { p_kpa ≤ 4000 }
+    requires apart { tr_udeg + 10000 ≤ tf_udeg }
+    requires temperature { tf_udeg ≤ 180000000 }
+    ensures text { IsCoefText (place_view place) p_kpa tf_udeg tr_udeg result.bytes }
+    ensures some { 0 < length result.bytes }
+{
+    let water = Water::new(p_kpa).unwrap();
+    factor_line(coeff(&water, place, tf_udeg, tr_udeg))
+}
+
+fn factor_line(k: Factor) -> ArrayString<COEF_ROOM>
+    ensures text { result.bytes ≡ codes "k " ++ signed_decimal k.lo ++ codes " " ++ signed_decimal k.hi ++ codes "\n" }
+    ensures some { 0 < length result.bytes }
+{
+    let mut digits = Buffer::new();
+    let mut line = ArrayString::new();
+    line.push_str("k ");
+    line.push_str(digits.format(k.lo));
+    line.push_str(" ");
+    line.push_str(digits.format(k.hi));
     line.push_str("\n");
     line
 }

@@ -8,6 +8,7 @@ use billing_memory::day_of;
 use event_script::LineFault;
 use meter_board::{CallKind, SimBoard, SliceSource};
 use pt_curve::Sensor;
+use sensor_pair::Place;
 use std::process::Abort;
 use std::test::Fail;
 
@@ -288,6 +289,28 @@ fn water_is_as_published(rt: HostRuntime) -> Result<(), Fail> {
     Ok(())
 }
 
+// At 1,600 kPa, with the volume measured in the return at 50 °C and the flow at 60 °C, the published sums
+// in exact fractions give 4130.3818145.. kJ/(m³ K).
+#[test]
+fn a_coefficient_is_as_published(rt: HostRuntime) -> Result<(), Fail> {
+    let mut board = board(&rt)?;
+    let mut source = SliceSource::new(b"", 1);
+    let words = ["k", "return", "1600", "60000000", "50000000"];
+    assert_eq!(&rt;
+        meter(rt.alloc(), &words, &mut source, &mut board),
+        Status::Done
+    );
+    let bytes: Vec<u8> = board.output().collect(rt.alloc())?;
+    let mut words = std::str::from_utf8(&bytes)?.split_whitespace();
+    assert_eq!(&rt; words.next(), Some("k"));
+    let lo = words.next().ok_or("no number")?.parse::<i128>()?;
+    let hi = words.next().ok_or("no number")?.parse::<i128>()?;
+    assert_eq!(&rt; words.next(), None);
+    assert!(&rt; 4_100_000_000 <= lo && lo <= 4_130_381_814);
+    assert!(&rt; 4_130_381_815 <= hi && hi <= 4_170_000_000 && hi - lo <= 2_000);
+    Ok(())
+}
+
 #[test]
 fn words_are_tested(rt: HostRuntime) {
     assert_eq!(&rt; command(&["dry"]), Ok(Job::Dry));
@@ -296,6 +319,15 @@ fn words_are_tested(rt: HostRuntime) {
         Ok(Job::Temp {
             sensor: Sensor::Pt500,
             r: 0
+        })
+    );
+    assert_eq!(&rt;
+        command(&["k", "flow", "1100", "60000000", "59990000"]),
+        Ok(Job::Coef {
+            place: Place::Flow,
+            p_kpa: 1100,
+            tf_udeg: 60_000_000,
+            tr_udeg: 59_990_000
         })
     );
     for (words, word) in [
@@ -313,6 +345,13 @@ fn words_are_tested(rt: HostRuntime) {
         (["water", "4001", "0"].as_slice(), 1),
         (["water", "1100", "180000001"].as_slice(), 2),
         (["water", "4000", "180000000", ""].as_slice(), 3),
+        (["k", "up", "1600", "60000000", "50000000"].as_slice(), 1),
+        (["k", "flow", "1099", "60000000", "50000000"].as_slice(), 2),
+        (["k", "flow", "1600", "180000001", "0"].as_slice(), 3),
+        (["k", "flow", "1600", "5000", "0"].as_slice(), 4),
+        (["k", "flow", "1600", "60000000", "59990001"].as_slice(), 4),
+        (["k", "flow", "1600", "60000000"].as_slice(), 4),
+        (["k", "flow", "1600", "10000", "0", "0"].as_slice(), 5),
     ] {
         assert_eq!(&rt; command(words), Err(Usage { word }));
     }

@@ -6,15 +6,17 @@ ghost use Rattle.trace_model.specs.Output.{PutsAlone};
 ghost use Rattle.journal_model.specs.Pairing.{NoneRefused};
 ghost use Rattle.meter_board.specs.Causes.{Rose};
 ghost use Rattle.run_engine.specs.Dry.{dry_opening, dry_settings};
+ghost use Rattle.meter_cli.specs.Coef.{CoefLeaves};
 ghost use Rattle.meter_cli.specs.Command.{PutsOneLine, command_of, texts};
 ghost use Rattle.meter_cli.specs.Status.{DryLeaves, status_of};
 ghost use Rattle.meter_cli.specs.Temp.{TempLeaves};
 ghost use Rattle.meter_cli.specs.Water.{WaterLeaves};
 ghost use Rattle.meter_cli.specs.declared.job.Job.{Job};
 ghost use Rattle.pt_curve.specs.declared.sensor.Sensor.{Sensor};
+ghost use Rattle.sensor_pair.specs.declared.place.Place.{Place};
 
 use crate::job::{Job, command};
-use crate::physics::{temp, water};
+use crate::physics::{coef, temp, water};
 use crate::status::Status;
 use meter_board::{Board, Source};
 use run_engine::{Ended, dry};
@@ -42,6 +44,7 @@ pub fn meter<S: Source, B: Board>(
     // The commands that put one line read nothing, and are done unless the output failed.
     ensures temp { (sensor : Sensor) (r : ℕ) → command_of (texts words.now) ≡ Ok (Job.Temp sensor r) → B.tells → TempLeaves sensor r (B.trace board.old) (B.trace board.new) result }
     ensures water { (p t : ℕ) → command_of (texts words.now) ≡ Ok (Job.Water p t) → B.tells → WaterLeaves p t (B.trace board.old) (B.trace board.new) result }
+    ensures coef { (place : Place) (p tf tr : ℕ) → command_of (texts words.now) ≡ Ok (Job.Coef place p tf tr) → B.tells → CoefLeaves place p tf tr (B.trace board.old) (B.trace board.new) result }
     ensures one_line { (job : Job) → command_of (texts words.now) ≡ Ok job → PutsOneLine job → (result ≡ Status.Done) ⊎ Rose (B.output_faults board.old) (B.output_faults board.new) }
     ensures unread { (job : Job) → command_of (texts words.now) ≡ Ok job → PutsOneLine job → source.new ≡ source.old }
 
@@ -57,6 +60,14 @@ pub fn meter<S: Source, B: Board>(
         Ok(Job::Dry) => status_from(dry(alloc, source, board)),
         Ok(Job::Temp { sensor, r }) => temp(board, sensor, r),
         Ok(Job::Water { p_kpa, t_udeg }) => water(board, p_kpa, t_udeg),
+        Ok(
+            Job::Coef {
+                place,
+                p_kpa,
+                tf_udeg,
+                tr_udeg,
+            },
+        ) => coef(board, place, p_kpa, tf_udeg, tr_udeg),
     }
 }
 

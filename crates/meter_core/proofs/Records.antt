@@ -1,5 +1,5 @@
 -- What events do to a record, in the words of the definitions.
-use Rattle.std.proofs.Common.{◌≡◌, ℕ, ◌+◌, ◌<◌, ◌≤◌, ◌==◌, refl, sym, ap, ◌∙◌, subst, arith, ℤ, pos, ◌+ℤ◌, cond, Bool, true, false, nat_lt, [], ◌∷◌, ◌++◌, length, map, Option, None, Some, ◌⊎◌, inl, inr}
+use Rattle.std.proofs.Common.{◌≡◌, ℕ, ◌+◌, ◌<◌, ◌≤◌, refl, sym, ap, ◌∙◌, arith, pos, true, false, [], ◌∷◌, ◌++◌, length, Option, None, Some, ◌⊎◌, inl, inr}
 use Rattle.std.proofs.lemmas.Bool.{le-ltb, ne_eqb, cases_lt}
 use Rattle.std.proofs.lemmas.List.{length-map}
 use Rattle.metering_model.specs.Events.{Event, Sample, Pulse, Date}

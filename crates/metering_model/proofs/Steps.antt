@@ -1,10 +1,10 @@
 -- What one event does to a record.
-use Rattle.std.proofs.Common.{◌≡◌, ℕ, ◌+◌, ◌-◌, ◌*◌, ◌≤◌, ◌<◌, ◌==◌, refl, sym, ap, subst, ◌∙◌, arith, ℤ, pos, ◌+ℤ◌, Bool, true, false, cond, ◌&&◌, List, [], ◌∷◌, ◌++◌, append-nil, length, map, filter, drop, Option, None, Some, IsTrue}
+use Rattle.std.proofs.Common.{◌≡◌, ℕ, ◌+◌, ◌-◌, ◌≤◌, ◌==◌, refl, sym, ap, arith, ℤ, pos, ◌+ℤ◌, Bool, true, false, cond, ◌&&◌, List, [], ◌∷◌, ◌++◌, append-nil, length, map, filter, drop, Option, None, Some}
 use Rattle.std.proofs.lemmas.Int.{ints}
 use Rattle.std.proofs.lemmas.Bool.{le-leb}
 use Rattle.calendar_model.specs.Calendar.{months_passed, month_of_year}
-use Rattle.calendar_model.specs.Entries.{MonthEntry, entry_of, latest, last_or, passed_entries, set_entry, never_falls}
-use Rattle.metering_model.specs.Events.{Event, Sample, Pulse, Date, Kept}
+use Rattle.calendar_model.specs.Entries.{MonthEntry, entry_of, latest, last_or, passed_entries, set_entry}
+use Rattle.metering_model.specs.Events.{Event, Sample, Pulse, Date}
 use Rattle.metering_model.specs.Settings.{Settings}
 use Rattle.metering_model.specs.Counting.{counted_by, faulty_by, is_in_range}
 use Rattle.metering_model.specs.Records.{MeterRecord, Register, StandsFor, register_after}
@@ -35,8 +35,8 @@ pub stands-sample : (c : Settings) (r : MeterRecord) (flow ret : ℕ) → length
 stands-sample c r flow ret few = record {
   in_order = refl;
   is =
-    let none : r.faulty ≡ r.faulty + (0 + faulty_by c r.samples 0) = omega (arith, no_faulty c r.samples) in
-    same_counts _ _ _ _ _ _ _ _ _ _ _ _ _ _ none (omega arith) (omega (arith, ints)) (omega arith) (sym (latest-whole c.kept_months r.months few));
+      let none : r.faulty ≡ r.faulty + (0 + faulty_by c r.samples 0) = omega (arith, no_faulty c r.samples) in
+      same_counts _ _ _ _ _ _ _ _ _ _ _ _ _ _ none (omega arith) (omega (arith, ints)) (omega arith) (sym (latest-whole c.kept_months r.months few));
 }
 
 pub stands-pulses : (c : Settings) (r : MeterRecord) (n : ℕ) (e : ℤ) (b : ℕ) → length r.months ≤ c.kept_months

@@ -5,7 +5,7 @@ use Rattle.number_model.specs.Fraction.{Fraction, ◌*ℚ◌, whole}
 use Rattle.platinum_model.specs.Sample.{IsInCell, AreCellEnds}
 use Rattle.water_model.specs.Water.{sum_over}
 use Rattle.heat_model.specs.Heat.{litre_energy, LiesBetween}
-use Rattle.metering_model.specs.Events.{Event, Kept, Placed, placed}
+use Rattle.metering_model.specs.Events.{Event, Kept, placed}
 use Rattle.metering_model.specs.Settings.{Settings}
 use Rattle.metering_model.specs.Counting.{Counted, counted_by}
 use Rattle.metering_model.specs.Records.{MeterRecord, StandsFor, counted_at, energy_in, bound_in}

@@ -1,10 +1,10 @@
 -- Images: where nothing is pending there is one, and what a store, a sync and a cut make of it.
-use Rattle.std.proofs.Common.{◌≡◌, inl, inr, ℕ, ◌+◌, ◌≤◌, ◌<◌, Bool, true, false, List, ◌++◌, length, get_or, take, drop, refl, sym, ◌∙◌, ap, arith}
+use Rattle.std.proofs.Common.{◌≡◌, inl, inr, ℕ, ◌+◌, ◌≤◌, ◌<◌, Bool, true, false, List, ◌++◌, length, get_or, take, drop, refl, sym, ◌∙◌, ap, subst, arith}
 use Rattle.std.specs.Prelude.{◌||◌}
 use Rattle.std.proofs.lemmas.List.{same_lists, get_or_default, length-append, length-take, length-drop, places}
 use Rattle.std.proofs.lemmas.Bool.{cases_lt}
 use Rattle.std.proofs.lemmas.Bool.Decides.{nat_tests}
-use Rattle.trace_model.specs.Trace.{Store, Sync, Missed, Put, Cut, Trace, ◌▷◌}
+use Rattle.trace_model.specs.Trace.{Store, Sync, Missed, Put, Cut, Trace, Start, ◌▷◌, base_of, IsFresh}
 use Rattle.trace_model.specs.Images.{NothingPending, pending, replaced, settled, written, is_within, is_covered, IsImage, SameOutside}
 
 pub none_covered : (t : Trace) → NothingPending t → (place : ℕ) → is_covered (pending t) place ≡ false
@@ -33,6 +33,13 @@ one_image t m n none of_m of_n =
     let lt_m : k < 16384 = omega (arith, of_m.size) in
     let lt_n : k < length n = omega (arith, of_n.size) in
     get_or_default m k d 0 lt ∙ of_m.same k lt_m (none_covered t none k) ∙ sym (of_n.same k lt_m (none_covered t none k)) ∙ sym (get_or_default n k d 0 lt_n))
+
+-- so it is with a board that was just handed in, whose memory reads its base
+pub fresh_pending : (t : Trace) → IsFresh t → NothingPending t
+fresh_pending t fresh = ap pending fresh
+
+pub fresh_image : (t : Trace) (m : List ℕ) → IsFresh t → length (base_of t) ≡ 16384 → IsImage t m → m ≡ base_of t
+fresh_image t m fresh size of = one_image (Start (base_of t)) m (base_of t) refl (subst (λ s. IsImage s m) fresh of) (settled_image (Start (base_of t)) size)
 
 -- within one store after that moment, the places outside its range stay
 pub near_image : (t : Trace) (at : ℕ) (bytes m n : List ℕ) → NothingPending t → IsImage t m → IsImage (t ▷ Store at bytes) n → SameOutside at (length bytes) m n

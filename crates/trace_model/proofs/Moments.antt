@@ -1,6 +1,6 @@
 -- How the moments of a trace go on.
 use Rattle.std.proofs.Common.{◌≡◌, inl, inr, sym, subst, refl}
-use Rattle.trace_model.specs.Trace.{Trace, Start, ◌▷◌}
+use Rattle.trace_model.specs.Trace.{Trace, Start, ◌▷◌, base_of}
 use Rattle.trace_model.specs.Moments.{IsPrefix, Grew, same, more}
 
 -- two stretches make one
@@ -27,6 +27,11 @@ Grew-now start (more g here) = here
 -- the trace that was reached, under another name
 pub Grew-is : {P : Trace → Type 0} {a b c : Trace} → Grew P a b → c ≡ b → Grew P a c
 Grew-is {P} {a} g e = subst (Grew P a) (sym e) g
+
+-- the base stays
+pub Grew-base : {P : Trace → Type 0} {a b : Trace} → Grew P a b → base_of b ≡ base_of a
+Grew-base same = refl
+Grew-base (more g here) = Grew-base g
 
 -- a trace stands among its own moments
 pub IsPrefix-self : (t : Trace) → IsPrefix t t

@@ -1,4 +1,4 @@
-use Rattle.std.proofs.Common.{◌≡◌, ◌∙◌, sym, ap}
+use Rattle.std.proofs.Common.{◌∙◌, sym, ap}
 use Rattle.calendar_model.specs.Entries.{set_entry}
 use Rattle.energy_register.specs.Register.{register_view}
 use Rattle.billing_memory.specs.Entries.{set_day_view}

@@ -1,4 +1,4 @@
-use Rattle.std.proofs.Common.{◌≡◌, ℕ, ◌+◌, ◌<◌, ◌≤◌, refl, arith}
+use Rattle.std.proofs.Common.{refl, arith}
 use Rattle.billing_memory.specs.Entries.{pulses_of, entries_view}
 use Rattle.billing_memory.proofs.RuleLemmas.{never_falls-more}
 use Rattle.meter_core.proofs.Records.{pulses_taken}

@@ -1,5 +1,4 @@
 use Rattle.std.proofs.Common.{◌≡◌, refl, sym, subst}
-use Rattle.event_script.specs.declared.Event.{Event}
 use Rattle.event_script.specs.Views.{event_view}
 use Rattle.meter_config.specs.Views.{settings_of}
 use Rattle.billing_memory.specs.Records.{record_view}
