@@ -6,7 +6,7 @@ use lib.IntN.{◌-ℤ◌}
 use lib.Signed.{≤ℤ_refl}
 use Rattle.number_model.specs.Fraction.{Fraction, ◌≤ℚ◌}
 use Rattle.number_model.specs.Rounding.{floor_div, ceil_div}
-use Rattle.number_model.specs.Enclosure.{scaled, Holds}
+use Rattle.number_model.specs.Enclosure.{scaled}
 use Rattle.number_model.proofs.Order.{≤ℚ_trans}
 use Rattle.number_model.proofs.Roundings.{floor_by, ceil_by, ceil_div-le}
 use Rattle.number_model.proofs.Ints.{as_diff, same_diff, ring, neg-*ℤ, recast}

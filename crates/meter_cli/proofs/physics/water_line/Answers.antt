@@ -1,4 +1,4 @@
-use Rattle.std.proofs.Common.{◌≡◌, ◌*◌, ap}
+use Rattle.std.proofs.Common.{◌*◌, ap}
 use Rattle.meter_cli.proofs.Waters.{water_text}
 use Rattle.meter_cli.proofs.physics.water_line.Goals as goal
 
