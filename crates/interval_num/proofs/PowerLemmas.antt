@@ -1,8 +1,9 @@
 -- Powers of a number of at most d, kept at the scale d.
-use Rattle.std.proofs.Common.{◌≡◌, ℕ, zero, suc, ◌+◌, ◌-◌, ◌*◌, ◌/◌, ◌^◌, ◌<◌, ◌≤◌, arith, ap, add-one}
+use Rattle.std.proofs.Common.{◌≡◌, ℕ, zero, suc, ◌+◌, ◌-◌, ◌*◌, ◌/◌, ◌%◌, ◌^◌, ◌<◌, ◌≤◌, arith, ap, ◌⊎◌, inl, inr}
+use Rattle.std.proofs.lemmas.Bool.{cases_lt}
 use Rattle.std.proofs.Common.{ℤ, pos, negsuc, ◌+ℤ◌, ◌-ℤ◌, ◌*ℤ◌, ◌≤ℤ◌, unsigned_abs}
 use Rattle.std.proofs.lemmas.Int.{ints}
-use Rattle.std.proofs.lemmas.Nat.{pow_pos, mul-pow}
+use Rattle.std.proofs.lemmas.Nat.{pow_pos, mul-pow, pow-add}
 use Rattle.number_model.specs.Fraction.{Fraction, power}
 use Rattle.number_model.specs.Enclosure.{Holds}
 use Rattle.number_model.proofs.Same.{Holds-same, same_sym}
@@ -10,17 +11,14 @@ use Rattle.number_model.proofs.Powers.{power-pos}
 use Rattle.interval_num.specs.Ends.{IsPower}
 use Rattle.std.proofs.Math.Nat.{pow-le-pow_left, one-le-pow, pow-suc, pow-zero, mul-le-mul_right, mul-le-mul_left, div-mul-le_self, lt-div-mul-add, le_of_mul-le-mul_right, div-le_of_le-mul, mul-le-mul, div-lt_iff_lt-mul}
 
--- p is l^i / d^(i - 1), rounded down, at most i too low
+-- p is l^i / d^(i - 1), rounded down, at most i - 1 too low
 pub record IsPowerBelow (d l i p : ℕ) : Type 0 where
   pub range : p ≤ d
   pub below : p * d ^ i ≤ l ^ i * d
-  pub above : l ^ i * d ≤ (p + i) * d ^ i
+  pub above : l ^ i * d ≤ (p + (i - 1)) * d ^ i
 
 pow_one : (n : ℕ) → n ^ 1 ≡ n
 pow_one n = omega (arith, pow-suc n zero, ap (λ t. t * n) (pow-zero n))
-
-pow_next : (n i : ℕ) → n ^ (i + 1) ≡ n ^ i * n
-pow_next n i = rw add-one (pow-suc n i)
 
 pub IsPowerBelow-one : (d l : ℕ) → l ≤ d → IsPowerBelow d l 1 l
 IsPowerBelow-one d l h = record {
@@ -29,26 +27,66 @@ IsPowerBelow-one d l h = record {
   above = rw (pow_one d, pow_one l) (omega arith);
 }
 
-step_below : (d l p q P L : ℕ) → q * d ≤ p * l → p * P ≤ L * d → q * (P * d) ≤ (L * l) * d
-step_below d l p q P L h k = omega (arith, mul-le-mul_right P h, mul-le-mul_right l k)
+product_below : (d p q r P Q A B : ℕ) → 0 < d → r * d ≤ p * q → p * P ≤ A * d → q * Q ≤ B * d → r * (P * Q) ≤ (A * B) * d
+product_below d p q r P Q A B above h k m =
+    let all : (p * P) * (q * Q) ≤ (A * d) * (B * d) = mul-le-mul k m in
+    let times : (r * d) * (P * Q) ≤ (p * q) * (P * Q) = mul-le-mul_right (P * Q) h in
+    le_of_mul-le-mul_right {m = r * (P * Q)} {n = (A * B) * d} {k = d} (omega (arith, all, times)) above
 
-step_above : (d l i p q P L : ℕ) → p * l < q * d + d → L * d ≤ (p + i) * P → l ≤ d → (L * l) * d ≤ (q + (i + 1)) * (P * d)
-step_above d l i p q P L h k small =
-    let h' : p * l ≤ q * d + d = omega arith in
-    omega (arith, mul-le-mul_right P h', mul-le-mul_right l k, mul-le-mul_left (i * P) small)
+product_above : (d p q r u v P Q A B : ℕ) → 0 < d → p * q ≤ r * d + d → p ≤ d → A * d ≤ (p + u) * P → B * d ≤ (q + v) * Q → B ≤ Q
+    → (A * B) * d ≤ (r + (u + v + 1)) * (P * Q)
+product_above d p q r u v P Q A B above h small k m le =
+    let first : (A * d) * (B * d) ≤ ((p + u) * P) * (B * d) = mul-le-mul_right (B * d) k in
+    let second : (p * P) * (B * d) ≤ (p * P) * ((q + v) * Q) = mul-le-mul_left (p * P) m in
+    let third : (u * P * d) * B ≤ (u * P * d) * Q = mul-le-mul_left (u * P * d) le in
+    let fourth : (p * q) * (P * Q) ≤ (r * d + d) * (P * Q) = mul-le-mul_right (P * Q) h in
+    let fifth : p * (v * P * Q) ≤ d * (v * P * Q) = mul-le-mul_right (v * P * Q) small in
+    le_of_mul-le-mul_right {m = (A * B) * d} {n = (r + (u + v + 1)) * (P * Q)} {k = d} (omega (arith, first, second, third, fourth, fifth)) above
 
-pub IsPowerBelow-more : (d l i p : ℕ) → 0 < d → l ≤ d → IsPowerBelow d l i p → IsPowerBelow d l (i + 1) (p * l / d)
-IsPowerBelow-more d l i p above small w = record {
-  range = div-le_of_le-mul d (mul-le-mul w.range small);
-  below = rw (pow_next d i, pow_next l i) (step_below d l p (p * l / d) (d ^ i) (l ^ i) (div-mul-le_self (p * l) d) w.below);
-  above = rw (pow_next d i, pow_next l i) (step_above d l i p (p * l / d) (d ^ i) (l ^ i) (lt-div-mul-add above) w.above small);
+errors : (a b : ℕ) → 1 ≤ a → 1 ≤ b → (a - 1) + (b - 1) + 1 ≡ a + b - 1
+errors a b h k = omega arith
+
+-- the product of two powers
+pub IsPowerBelow-product : (d l a b p q : ℕ) → 0 < d → l ≤ d → 1 ≤ a → 1 ≤ b → IsPowerBelow d l a p → IsPowerBelow d l b q → IsPowerBelow d l (a + b) (p * q / d)
+IsPowerBelow-product d l a b p q above small ha hb v w = record {
+  range = div-le_of_le-mul d (mul-le-mul v.range w.range);
+  below = rw (pow-add d a b, pow-add l a b) (product_below d p q (p * q / d) (d ^ a) (d ^ b) (l ^ a) (l ^ b) above (div-mul-le_self (p * q) d) v.below w.below);
+  above =
+      let last : p * q < p * q / d * d + d = lt-div-mul-add above in
+      rw (pow-add d a b, pow-add l a b, ← errors a b ha hb) (product_above d p q (p * q / d) (a - 1) (b - 1) (d ^ a) (d ^ b) (l ^ a) (l ^ b) above (omega arith) v.range v.above w.above (pow-le-pow_left small b));
 }
 
--- p is l^i / d^(i - 1), rounded up, at most i too high
+parts : (n : ℕ) → (n % 2 ≡ 0 → ⊥) → n / 2 + n / 2 + 1 ≡ n
+parts n odd = by (cases_lt 0 (n % 2)) where
+  by : (0 < n % 2) ⊎ (n % 2 ≤ 0) → n / 2 + n / 2 + 1 ≡ n
+  by (inl one) = omega (arith, one)
+  by (inr none) = absurd (odd (omega arith))
+
+begun : (n : ℕ) → 1 ≤ n → (n ≡ 1 → ⊥) → 1 ≤ n / 2
+begun n some more = by (cases_lt n 2) where
+  by : (n < 2) ⊎ (2 ≤ n) → 1 ≤ n / 2
+  by (inl one) = absurd (more (omega (arith, some)))
+  by (inr two) = omega (arith, two)
+
+-- by a square, and for an odd exponent one more factor
+pub IsPowerBelow-even : (d l n h q : ℕ) → 0 < d → l ≤ d → 1 ≤ n → (n ≡ 1 → ⊥) → n % 2 ≡ 0 → IsPowerBelow d l (n / 2) h → q ≡ h * h / d → IsPowerBelow d l n q
+IsPowerBelow-even d l n h q above small some more even w is =
+    let halves : n / 2 + n / 2 ≡ n = omega (arith, even) in
+    let half : 1 ≤ n / 2 = omega (arith, even) in
+    rw is (rw halves at (IsPowerBelow-product d l (n / 2) (n / 2) h h above small half half w w))
+
+pub IsPowerBelow-odd : (d l n h q r : ℕ) → 0 < d → l ≤ d → 1 ≤ n → (n ≡ 1 → ⊥) → (n % 2 ≡ 0 → ⊥) → IsPowerBelow d l (n / 2) h → q ≡ h * h / d → r ≡ q * l / d → IsPowerBelow d l n r
+IsPowerBelow-odd d l n h q r above small some more odd w is last =
+    let halves : n / 2 + n / 2 + 1 ≡ n = parts n odd in
+    let half : 1 ≤ n / 2 = begun n some more in
+    let square : IsPowerBelow d l (n / 2 + n / 2) q = rw is (IsPowerBelow-product d l (n / 2) (n / 2) h h above small half half w w) in
+    rw last (rw halves at (IsPowerBelow-product d l (n / 2 + n / 2) 1 q l above small (omega arith) (omega arith) square (IsPowerBelow-one d l small)))
+
+-- p is l^i / d^(i - 1), rounded up, at most i - 1 too high
 pub record IsPowerAbove (d l i p : ℕ) : Type 0 where
   pub range : p ≤ d
   pub above : l ^ i * d ≤ p * d ^ i
-  pub below : p * d ^ i ≤ l ^ i * d + i * d ^ i
+  pub below : p * d ^ i ≤ l ^ i * d + (i - 1) * d ^ i
 
 pub IsPowerAbove-one : (d l : ℕ) → l ≤ d → IsPowerAbove d l 1 l
 IsPowerAbove-one d l h = record {
@@ -57,24 +95,48 @@ IsPowerAbove-one d l h = record {
   below = rw (pow_one d, pow_one l) (omega arith);
 }
 
-up_above : (d l p q P L : ℕ) → p * l ≤ q * d → L * d ≤ p * P → (L * l) * d ≤ q * (P * d)
-up_above d l p q P L h k = omega (arith, mul-le-mul_right P h, mul-le-mul_right l k)
+up_above : (d p q r P Q A B : ℕ) → 0 < d → p * q ≤ r * d → A * d ≤ p * P → B * d ≤ q * Q → (A * B) * d ≤ r * (P * Q)
+up_above d p q r P Q A B above h k m =
+    let all : (A * d) * (B * d) ≤ (p * P) * (q * Q) = mul-le-mul k m in
+    let times : (p * q) * (P * Q) ≤ (r * d) * (P * Q) = mul-le-mul_right (P * Q) h in
+    le_of_mul-le-mul_right {m = (A * B) * d} {n = r * (P * Q)} {k = d} (omega (arith, all, times)) above
 
-up_below : (d l i p q P L : ℕ) → q * d ≤ p * l + d → p * P ≤ L * d + i * P → l ≤ d → q * (P * d) ≤ (L * l) * d + (i + 1) * (P * d)
-up_below d l i p q P L h k small = omega (arith, mul-le-mul_right P h, mul-le-mul_right l k, mul-le-mul_left (i * P) small)
+up_below : (d p q r u v P Q A B : ℕ) → 0 < d → r * d ≤ p * q + d → q ≤ d → p * P ≤ A * d + u * P → q * Q ≤ B * d + v * Q → A ≤ P
+    → r * (P * Q) ≤ (A * B) * d + (u + v + 1) * (P * Q)
+up_below d p q r u v P Q A B above h small k m le =
+    let first : (r * d) * (P * Q) ≤ (p * q + d) * (P * Q) = mul-le-mul_right (P * Q) h in
+    let second : (p * P) * (q * Q) ≤ (A * d + u * P) * (q * Q) = mul-le-mul_right (q * Q) k in
+    let third : (A * d) * (q * Q) ≤ (A * d) * (B * d + v * Q) = mul-le-mul_left (A * d) m in
+    let fourth : (u * P * Q) * q ≤ (u * P * Q) * d = mul-le-mul_left (u * P * Q) small in
+    let fifth : (v * Q * d) * A ≤ (v * Q * d) * P = mul-le-mul_left (v * Q * d) le in
+    le_of_mul-le-mul_right {m = r * (P * Q)} {n = (A * B) * d + (u + v + 1) * (P * Q)} {k = d} (omega (arith, first, second, third, fourth, fifth)) above
 
-pub IsPowerAbove-more : (d l i p : ℕ) → 0 < d → l ≤ d → IsPowerAbove d l i p → IsPowerAbove d l (i + 1) ((p * l + (d - 1)) / d)
-IsPowerAbove-more d l i p above small w =
-    let q = (p * l + (d - 1)) / d in
-    let at_most : q * d ≤ p * l + d = omega (arith, div-mul-le_self (p * l + (d - 1)) d) in
-    let at_least : p * l ≤ q * d = omega (arith, lt-div-mul-add {a = p * l + (d - 1)} above) in
-    let square : p * l ≤ d * d = mul-le-mul w.range small in
-    let low : q < d + 1 = (div-lt_iff_lt-mul above).1 (omega arith) in
+pub IsPowerAbove-product : (d l a b p q : ℕ) → 0 < d → l ≤ d → 1 ≤ a → 1 ≤ b → IsPowerAbove d l a p → IsPowerAbove d l b q → IsPowerAbove d l (a + b) ((p * q + (d - 1)) / d)
+IsPowerAbove-product d l a b p q above small ha hb v w =
+    let r = (p * q + (d - 1)) / d in
+    let at_most : r * d ≤ p * q + d = omega (arith, div-mul-le_self (p * q + (d - 1)) d) in
+    let at_least : p * q ≤ r * d = omega (arith, lt-div-mul-add {a = p * q + (d - 1)} above) in
+    let square : p * q ≤ d * d = mul-le-mul v.range w.range in
+    let low : r < d + 1 = (div-lt_iff_lt-mul above).1 (omega arith) in
     record {
       range = omega arith;
-      above = rw (pow_next d i, pow_next l i) (up_above d l p q (d ^ i) (l ^ i) at_least w.above);
-      below = rw (pow_next d i, pow_next l i) (up_below d l i p q (d ^ i) (l ^ i) at_most w.below small);
+      above = rw (pow-add d a b, pow-add l a b) (up_above d p q r (d ^ a) (d ^ b) (l ^ a) (l ^ b) above at_least v.above w.above);
+      below = rw (pow-add d a b, pow-add l a b, ← errors a b ha hb) (up_below d p q r (a - 1) (b - 1) (d ^ a) (d ^ b) (l ^ a) (l ^ b) above at_most w.range v.below w.below (pow-le-pow_left small a));
     }
+
+-- by a square, and for an odd exponent one more factor
+pub IsPowerAbove-even : (d l n h q : ℕ) → 0 < d → l ≤ d → 1 ≤ n → (n ≡ 1 → ⊥) → n % 2 ≡ 0 → IsPowerAbove d l (n / 2) h → q ≡ (h * h + (d - 1)) / d → IsPowerAbove d l n q
+IsPowerAbove-even d l n h q above small some more even w is =
+    let halves : n / 2 + n / 2 ≡ n = omega (arith, even) in
+    let half : 1 ≤ n / 2 = omega (arith, even) in
+    rw is (rw halves at (IsPowerAbove-product d l (n / 2) (n / 2) h h above small half half w w))
+
+pub IsPowerAbove-odd : (d l n h q r : ℕ) → 0 < d → l ≤ d → 1 ≤ n → (n ≡ 1 → ⊥) → (n % 2 ≡ 0 → ⊥) → IsPowerAbove d l (n / 2) h → q ≡ (h * h + (d - 1)) / d → r ≡ (q * l + (d - 1)) / d → IsPowerAbove d l n r
+IsPowerAbove-odd d l n h q r above small some more odd w is last =
+    let halves : n / 2 + n / 2 + 1 ≡ n = parts n odd in
+    let half : 1 ≤ n / 2 = begun n some more in
+    let square : IsPowerAbove d l (n / 2 + n / 2) q = rw is (IsPowerAbove-product d l (n / 2) (n / 2) h h above small half half w w) in
+    rw last (rw halves at (IsPowerAbove-product d l (n / 2 + n / 2) 1 q l above small (omega arith) (omega arith) square (IsPowerAbove-one d l small)))
 
 low_pow : (s b n l a l' : ℕ) → 0 < s → l * b ≤ a * s → l' * s ^ n ≤ l ^ n * s → l' * b ^ n ≤ a ^ n * s
 low_pow s b n l a l' above h below =

@@ -1,6 +1,7 @@
-use Rattle.std.proofs.Common.{◌≡◌, ◌^◌, ◌≤◌, pos, ◌≤ℤ◌, unsigned_abs, arith, to_z, to_z-of_z}
+use Rattle.std.proofs.Common.{◌≡◌, ℕ, ◌+◌, ◌-◌, ◌*◌, ◌^◌, ◌≤◌, pos, ◌≤ℤ◌, unsigned_abs, arith, to_z, to_z-of_z}
 use Rattle.std.proofs.lemmas.Int.{ints, to_z_pos}
 use Rattle.std.proofs.lemmas.Nat.{pow_pos}
+use Rattle.std.proofs.Math.Nat.{mul-le-mul_right}
 use mir.Syntax.{w128}
 use mir.Val.{SFits}
 use Rattle.interval_num.specs.Ends.{IsPower}
@@ -9,6 +10,12 @@ use Rattle.interval_num.proofs.PowerLemmas.{unsigned_abs-le, Holds-pow, IsPower-
 use Rattle.interval_num.proofs.enc.Enc.powi.Given as given
 use Rattle.interval_num.proofs.enc.Enc.powi.Goals as goal
 use Rattle.interval_num.proofs.enc.Enc.powi.Goals.{After-power_ceil}
+
+one_lower : (x p n d : ℕ) → x ≤ (p + (n - 1)) * d → x ≤ (p + n) * d
+one_lower x p n d h = let k : (p + (n - 1)) * d ≤ (p + n) * d = mul-le-mul_right d (omega arith) in omega (arith, h, k)
+
+one_higher : (p x n d : ℕ) → p * d ≤ x + (n - 1) * d → p * d ≤ x + n * d
+one_higher p x n d h = let k : (n - 1) * d ≤ n * d = mul-le-mul_right d (omega arith) in omega (arith, h, k)
 
 low_is : (g : given.Over) (c : After-power_ceil g) → to_z w128 c.power_floor.result ≡ pos c.power_floor.result
 low_is g c = to_z_pos w128 c.power_floor.result (omega (arith, c.power_floor.ensures.range, pow_at_most g.row.S c.args.self.scale))
@@ -24,9 +31,9 @@ ends g c =
       low = omega (arith, ints);
       high = omega (arith, ints, c.power_ceil.ensures.range);
       low_below = simp to_z-of_z at c.power_floor.ensures.below;
-      low_above = simp to_z-of_z at c.power_floor.ensures.above;
+      low_above = one_lower _ c.power_floor.result c.args.n _ (simp to_z-of_z at c.power_floor.ensures.above);
       high_above = simp to_z-of_z at c.power_ceil.ensures.above;
-      high_below = simp to_z-of_z at c.power_ceil.ensures.below;
+      high_below = one_higher c.power_ceil.result _ c.args.n _ (simp to_z-of_z at c.power_ceil.ensures.below);
     }
 
 ordered : (g : given.Over) (c : After-power_ceil g) → pos c.power_floor.result ≤ℤ pos c.power_ceil.result
