@@ -1,0 +1,3 @@
+//! Which texts are accepted as configurations, and why another is refused. Definitions alone, in
+//! `specs/`.
+#![tactic(auto)]
