@@ -52,9 +52,12 @@ field_among at size rule = record { at = at; size = size; keeps = λ bytes. rule
 abbrev pub blank : (at size : ℕ) → Field
 blank at size = record { at = at; size = size; keeps = λ bytes. are_zero (part at size bytes) }
 
--- fields of one zero each
-unfoldable pub blanks : (at count : ℕ) → List Field
-blanks at count = map (λ place. blank place 1) (range_with_len at count)
+-- a byte that is zero
+abbrev pub zero_byte : ℕ → Field
+zero_byte at = field at 1 (λ n. n == 0)
+
+unfoldable pub zero_bytes : (at count : ℕ) → List Field
+zero_bytes at count = map zero_byte (range_with_len at count)
 
 abbrev pub keep_all : List Field → List ℕ → Bool
 keep_all fields bytes = list_all (λ f. f.keeps bytes) fields

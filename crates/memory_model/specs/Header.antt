@@ -3,7 +3,7 @@ use Rattle.std.specs.Prelude.{ℕ, ◌%◌, ◌==◌, nat_le, if◌then◌else�
 use Rattle.std.specs.Int.{is_in_range}
 use Rattle.heat_model.specs.Heat.{Place, Flow, Return}
 use Rattle.config_model.specs.Configuration.{Configuration, is_capital, is_sensor, is_pulse}
-use Rattle.memory_model.specs.Fields.{Field, any, field, value, blank, blanks, first_broken, unless_broken}
+use Rattle.memory_model.specs.Fields.{Field, any, field, value, zero_byte, zero_bytes, first_broken, unless_broken}
 
 -- the format is any odd number
 abbrev pub format_field : Field
@@ -69,9 +69,9 @@ header_fields =
     ∷ energy_decimals_field
     ∷ volume_decimals_field
     ∷ set_month_field
-    ∷ blank 21 1
+    ∷ zero_byte 21
     ∷ opening_day_field
-    ∷ blanks 24 232
+    ∷ zero_bytes 24 232
 
 abbrev pub place_of : ℕ → Place
 place_of n = if n == 0 then Flow else Return
