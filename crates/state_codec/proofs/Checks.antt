@@ -58,6 +58,13 @@ first_broken-all [] gs bytes keep = refl
 first_broken-all (f ∷ fs) gs bytes keep =
     passed (f.keeps bytes) f.at (first_broken (fs ++ gs) bytes) keep.0 ∙ first_broken-all fs gs bytes keep.1
 
+pub first_broken-split : (fs gs : List Field) (bytes : List ℕ) → first_broken (fs ++ gs) bytes ≡ None → (first_broken fs bytes ≡ None) × (first_broken gs bytes ≡ None)
+first_broken-split [] gs bytes e = (refl, e)
+first_broken-split (f ∷ fs) gs bytes e =
+    let p = first_broken-kept f (fs ++ gs) bytes e in
+    let later = first_broken-split fs gs bytes p.1 in
+    (passed (f.keeps bytes) f.at (first_broken fs bytes) p.0 ∙ later.0, later.1)
+
 -- ---- zeros one after another
 
 pub zero_kept : (bytes : List ℕ) (at end : ℕ) (total : Option ℕ) → at < end → (zero_byte at).keeps bytes ≡ true → first_broken (zero_bytes at (end - at)) bytes ≡ total → first_broken (zero_bytes (at + 1) (end - (at + 1))) bytes ≡ total
