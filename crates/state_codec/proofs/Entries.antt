@@ -1,5 +1,5 @@
 -- The bytes of an entry and of a record's sums, as they are written.
-use Rattle.std.proofs.Common.{◌≡◌, ℕ, ◌+◌, ◌*◌, ◌^◌, ◌<◌, ◌≤◌, ℤ, pos, negsuc, FitsSigned, List, [], ◌∷◌, ◌++◌, get_or, nat_abs, refl, sym, ◌∙◌, ap, arith}
+use Rattle.std.proofs.Common.{◌≡◌, ℕ, ◌*◌, ◌^◌, ◌<◌, ◌≤◌, ℤ, pos, negsuc, FitsSigned, List, [], ◌∷◌, get_or, nat_abs, arith}
 use Rattle.std.specs.Int.{w16, w32, w64, w128, to_le_bytes, cast_unsigned}
 use Rattle.metering_model.specs.Records as records
 use Rattle.calendar_model.specs.Entries.{MonthEntry}

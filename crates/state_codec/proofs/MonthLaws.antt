@@ -1,11 +1,11 @@
 -- Months, their first days, and how many have begun.
-use Rattle.std.proofs.Common.{◌≡◌, ℕ, zero, suc, ◌+◌, ◌-◌, ◌*◌, ◌/◌, ◌<◌, ◌≤◌, ◌⊎◌, inl, inr, Bool, true, false, List, [], ◌∷◌, ◌++◌, length, map, drop, get_or, refl, sym, ◌∙◌, ap, subst, arith, lit<, add-zero, zero-add}
-use Rattle.std.specs.Prelude.{◌||◌, ◌&&◌, ◌==◌, nat_le}
+use Rattle.std.proofs.Common.{◌≡◌, ℕ, zero, suc, ◌+◌, ◌-◌, ◌*◌, ◌/◌, ◌<◌, ◌≤◌, ◌⊎◌, inl, inr, Bool, true, false, List, [], ◌∷◌, length, drop, refl, sym, ◌∙◌, ap, subst, arith, lit<, add-zero, zero-add}
+use Rattle.std.specs.Prelude.{◌||◌, ◌==◌, nat_le}
 use Rattle.std.specs.List.{range_with_len, list_any, list_all}
 use Rattle.std.proofs.lemmas.Bool.{cases_eq, cases_lt, cases_Bool, eqb-true, leb-true, eq-eqb, and_parts, and_from}
 use Rattle.std.proofs.lemmas.Bool.Decides.{nat_tests}
 use Rattle.std.proofs.lemmas.List.FromFn.{length-range_with_len}
-use Rattle.calendar_model.specs.Calendar.{IsDay, IsMonthStart, month_of_year, first_day, is_first_day, months_to, day_number}
+use Rattle.calendar_model.specs.Calendar.{IsDay, IsMonthStart, month_of_year, first_day, is_first_day, day_number}
 use Rattle.calendar_model.specs.Entries.{never_falls, latest}
 use Rattle.jiff_core.proofs.StandardFacts.{known_days}
 use Rattle.calendar_model.proofs.DayLemmas.{day_count-2100, day_number-day_count}

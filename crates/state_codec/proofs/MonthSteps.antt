@@ -1,17 +1,17 @@
 -- Month entries that are read one after another.
-use Rattle.std.proofs.Common.{◌≡◌, ℕ, zero, suc, ◌+◌, ◌-◌, ◌*◌, ◌<◌, ◌≤◌, inl, inr, Bool, true, false, cond, List, [], ◌∷◌, ◌++◌, length, map, get_or, Option, None, Some, refl, sym, ◌∙◌, ap, subst, arith}
+use Rattle.std.proofs.Common.{◌≡◌, ℕ, zero, suc, ◌+◌, ◌-◌, ◌*◌, ◌<◌, ◌≤◌, inl, inr, Bool, true, false, cond, List, [], ◌∷◌, ◌++◌, length, map, get_or, Option, None, Some, refl, sym, ◌∙◌, ap, arith}
 use Rattle.std.specs.Prelude.{nat_lt, nat_le, ◌&&◌, ◌==◌}
-use Rattle.std.specs.List.{range_with_len, list_all}
+use Rattle.std.specs.List.{range_with_len}
 use Rattle.std.proofs.lemmas.Bool.{and_parts, and_from, cases_eq, eqb-true, eq-eqb, leb-true}
 use Rattle.std.proofs.lemmas.Bool.Decides.{nat_tests}
-use Rattle.std.proofs.lemmas.List.FromFn.{map-range_with_len_more, length-map-range_with_len}
+use Rattle.std.proofs.lemmas.List.FromFn.{map-range_with_len_more}
 use Rattle.metering_model.specs.Records.{Register}
 use Rattle.calendar_model.specs.Calendar.{is_first_day, first_day, months_to}
 use Rattle.calendar_model.specs.Entries.{MonthEntry, days_of, latest, never_falls, last_or}
 use Rattle.calendar_model.proofs.MonthLemmas.{IsInMonth, months_to_is}
 use Rattle.billing_memory.specs.Entries.{entry_view, entries_view}
 use Rattle.billing_memory.specs.declared.entry.Entry.{Entry}
-use Rattle.memory_model.specs.Fields.{first_broken, number, part, are_zero, keep_all}
+use Rattle.memory_model.specs.Fields.{first_broken, number, are_zero, keep_all}
 use Rattle.memory_model.specs.Slot.{month_fields, month_field, month_keeps, month_part, month_entry, months_begun, is_entry, entry_of, goes_on, ends_right, follows, entry_fields}
 use Rattle.state_codec.specs.Slot.{entries_to, goes_on_after}
 use Rattle.state_codec.proofs.Checks.{first_broken-kept}

@@ -1,10 +1,10 @@
 -- A record that is written is read again.
-use Rattle.std.proofs.Common.{◌≡◌, ℕ, zero, suc, ◌+◌, ◌-◌, ◌*◌, ◌^◌, ◌<◌, ◌≤◌, inl, inr, Bool, true, false, cond, List, [], ◌∷◌, ◌++◌, length, map, get_or, take, drop, Option, None, Some, Ok, refl, sym, ◌∙◌, ap, subst, arith, append_assoc, length-drop}
-use Rattle.std.specs.Prelude.{replicate, nat_le, nat_lt, nat_abs, ◌&&◌, ◌||◌, ◌==◌}
+use Rattle.std.proofs.Common.{◌≡◌, ℕ, zero, suc, ◌+◌, ◌-◌, ◌*◌, ◌^◌, ◌<◌, ◌≤◌, inl, inr, Bool, true, cond, List, [], ◌∷◌, ◌++◌, length, map, get_or, take, drop, Option, None, Some, Ok, refl, sym, ◌∙◌, ap, arith, length-drop}
+use Rattle.std.specs.Prelude.{replicate, nat_le, nat_abs, ◌&&◌, ◌||◌, ◌==◌}
 use Rattle.std.specs.List.{flat_map, list_all, range_with_len}
 use Rattle.std.specs.Option.{ForSome}
-use Rattle.std.specs.Int.{w16, w32, w64, w128, to_le_bytes, cast_signed, cast_unsigned}
-use Rattle.std.proofs.lemmas.Bool.{cases_lt, cases_eq, cases_Bool, and_parts, and_from, eqb-true, eq-eqb, leb-true}
+use Rattle.std.specs.Int.{w128, cast_signed, cast_unsigned}
+use Rattle.std.proofs.lemmas.Bool.{cases_lt, cases_Bool, and_parts, and_from, eqb-true, eq-eqb, leb-true}
 use Rattle.std.proofs.lemmas.Bool.Decides.{nat_tests}
 use Rattle.std.proofs.lemmas.Int.{to_z-of_z}
 use Rattle.std.proofs.lemmas.List.{take_at, drop_at, drop-drop, drop-replicate, length-map}
@@ -22,7 +22,7 @@ use Rattle.memory_model.specs.Fields.{first_broken, unless_broken, number, part,
 use Rattle.memory_model.specs.Slot.{record_in, record_of, record_fields, month_fields, month_keeps, month_part, month_entry, months_begun, is_entry, entry_of, set_day_keeps, set_day_of, samples_of, months_of, goes_on, ends_right, follows, is_energy_of, is_bound_of}
 use Rattle.state_codec.specs.Slot.{head_fields, sample_fields, sum_fields, set_day_fields, entry_bytes, zeros, flag_of, flow_of, return_of, head_bytes, sum_bytes, set_day_bytes, record_bytes}
 use Rattle.state_codec.proofs.Checks.{AllKeep, first_broken-all, first_broken-none}
-use Rattle.state_codec.proofs.Spelling.{written_1, written_2, written_4, written_8, written_16, zeros-again}
+use Rattle.state_codec.proofs.Spelling.{written_1, written_2, written_4, written_8, written_16}
 use Rattle.state_codec.proofs.Entries.{energy_fits, energy_bits}
 use Rattle.state_codec.proofs.Writes.{length-set_day}
 use Rattle.state_codec.proofs.MonthLaws.{months_begun-in, months_begun-first, latest-range, month_of_day}

@@ -1,7 +1,7 @@
 -- A slot that is read is spelled as it is written.
-use Rattle.std.proofs.Common.{◌≡◌, ℕ, zero, suc, ◌+◌, ◌-◌, ◌*◌, ◌^◌, ◌<◌, ◌≤◌, inl, inr, Bool, true, false, cond, List, [], ◌∷◌, ◌++◌, length, map, take, drop, Option, None, Some, Ok, refl, sym, ◌∙◌, ap, subst, arith, append_assoc, pow-suc, length-take, length-drop}
+use Rattle.std.proofs.Common.{◌≡◌, ℕ, zero, suc, ◌+◌, ◌-◌, ◌*◌, ◌^◌, ◌<◌, ◌≤◌, inl, inr, Bool, true, false, cond, List, [], ◌∷◌, ◌++◌, length, drop, None, Some, Ok, refl, sym, ◌∙◌, ap, subst, arith, append_assoc, pow-suc}
 use Rattle.std.specs.Prelude.{replicate, nat_le, ◌&&◌, ◌||◌, ◌==◌}
-use Rattle.std.specs.List.{All, flat_map, range_with_len}
+use Rattle.std.specs.List.{flat_map}
 use Rattle.std.specs.Int.{w16, w32, w64, w128, to_le_bytes, cast_signed, cast_unsigned}
 use Rattle.std.proofs.lemmas.Bool.{cases_Bool, and_parts, eqb-true, leb-true}
 use Rattle.std.proofs.lemmas.Bool.Decides.{nat_tests}
@@ -10,9 +10,8 @@ use Rattle.std.proofs.lemmas.List.{drop_all, replicate-append-replicate}
 use Rattle.std.proofs.lemmas.List.Elements.{All-head, All-tail, All-take, All-drop}
 use Rattle.std.proofs.lemmas.List.FromFn.{length-map-range_with_len}
 use Rattle.metering_model.specs.Records as records
-use Rattle.calendar_model.specs.Entries.{MonthEntry}
 use Rattle.memory_model.specs.Fields.{AreBytes, little_endian, first_broken, number, part, are_zero, keep_all, blank}
-use Rattle.memory_model.specs.Slot.{record_in, record_of, record_fields, month_fields, month_keeps, month_part, month_entry, is_entry, entry_of, entry_fields, set_day_keeps, set_day_of, samples_of, months_of, goes_on, ends_right}
+use Rattle.memory_model.specs.Slot.{record_in, record_of, record_fields, month_fields, month_part, month_entry, is_entry, entry_of, entry_fields, set_day_keeps, set_day_of, samples_of, months_of, goes_on, ends_right}
 use Rattle.state_codec.specs.Slot.{head_fields, sample_fields, sum_fields, set_day_fields, entry_bytes, zeros, flag_of, flow_of, return_of, head_bytes, sum_bytes, set_day_bytes, record_bytes}
 use Rattle.state_codec.proofs.Numbers.{length-part}
 use Rattle.state_codec.proofs.Checks.{AllKeep, all_kept, checked-ok, first_broken-kept, first_broken-split}

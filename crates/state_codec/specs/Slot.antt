@@ -1,12 +1,12 @@
 -- The parts of a slot.
-use Rattle.std.specs.Prelude.{◌≡◌, ℕ, ◌+◌, ◌*◌, ◌-◌, ◌&&◌, Bool, true, false, nat_le, nat_abs, ℤ, List, [], ◌∷◌, ◌++◌, map, length, replicate, Option, None, Some, Result, Ok, Err}
+use Rattle.std.specs.Prelude.{◌≡◌, ℕ, ◌*◌, ◌-◌, ◌&&◌, Bool, true, false, nat_le, nat_abs, ℤ, List, [], ◌∷◌, ◌++◌, map, length, replicate, Option, None, Some, Result, Ok, Err}
 use Rattle.std.specs.List.{flat_map, range_with_len}
 use Rattle.std.specs.Int.{w16, w32, w64, w128, to_le_bytes, cast_unsigned}
 use Rattle.calendar_model.specs.Entries.{MonthEntry, last_or}
 use Rattle.metering_model.specs.Records as records
 use Rattle.energy_register.specs.Register.{register_view}
 use Rattle.energy_register.specs.declared.Register.{Register}
-use Rattle.billing_memory.specs.Entries.{entry_view, entries_view}
+use Rattle.billing_memory.specs.Entries.{entry_view}
 use Rattle.billing_memory.specs.declared.entry.Entry.{Entry}
 use Rattle.memory_model.specs.Fields.{Field, value, blank, signed, first_broken}
 use Rattle.memory_model.specs.Slot.{seq_field, day_field, samples_field, month_count_field, set_day_kept_field, flow_sample_field, return_sample_field, faulty_field, pulses_field, energy_field, bound_field, set_day_field, is_entry, entry_of, month_entry, month_keeps, month_fields, follows}

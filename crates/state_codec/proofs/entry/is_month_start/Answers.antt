@@ -1,4 +1,3 @@
-use Rattle.std.proofs.Common.{◌∙◌}
 use Rattle.state_codec.proofs.MonthLaws.{month_start-is}
 use Rattle.state_codec.proofs.entry.is_month_start.Goals as goal
 

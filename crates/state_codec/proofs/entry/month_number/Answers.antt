@@ -1,4 +1,4 @@
-use Rattle.std.proofs.Common.{◌∙◌, arith}
+use Rattle.std.proofs.Common.{arith}
 use Rattle.state_codec.proofs.MonthLaws.{dated, months_begun-in}
 use Rattle.state_codec.proofs.entry.month_number.Goals as goal
 

@@ -1,4 +1,4 @@
-use Rattle.std.proofs.Common.{◌≡◌, ◌-◌, ◌≤◌, ◌+◌, ◌∙◌, sym, arith, Some, None}
+use Rattle.std.proofs.Common.{◌≡◌, ◌-◌, ◌∙◌, sym, arith}
 use Rattle.memory_model.specs.Fields.{first_broken, number, are_zero}
 use Rattle.memory_model.specs.Slot.{month_fields, month_keeps}
 use Rattle.std.proofs.Common.{ap, true, false}

@@ -1,7 +1,7 @@
-use Rattle.std.proofs.Common.{◌≡◌, ◌∙◌, ◌+◌, ◌*◌, ◌≤◌, sym, ap, length, true, false, arith}
-use Rattle.billing_memory.specs.Entries.{entry_view, entries_view}
+use Rattle.std.proofs.Common.{◌≡◌, ◌∙◌, ◌+◌, ◌*◌, ◌≤◌, sym, ap, length, true, arith}
+use Rattle.billing_memory.specs.Entries.{entry_view}
 use Rattle.memory_model.specs.Fields.{number}
-use Rattle.memory_model.specs.Slot.{is_entry, entry_of, month_part, month_entry, goes_on}
+use Rattle.memory_model.specs.Slot.{is_entry, entry_of, month_part, month_entry}
 use Rattle.state_codec.proofs.Numbers.{length-part}
 use Rattle.state_codec.proofs.MonthSteps.{goes_on-read, month_right, month_no_entry, month_goes_wrong, month_ends_wrong}
 use Rattle.state_codec.proofs.slot_reading.read_month.Goals as goal

@@ -1,9 +1,8 @@
-use Rattle.std.proofs.Common.{◌≡◌, ◌∙◌, ◌++◌, ◌∷◌, [], ◌+◌, ◌-◌, ◌<◌, sym, ap, length, map, true, false, arith}
+use Rattle.std.proofs.Common.{◌≡◌, ◌∙◌, ◌++◌, ◌∷◌, [], ◌<◌, sym, ap, length, arith}
 use Rattle.std.proofs.lemmas.List.{map_push}
 use Rattle.billing_memory.specs.Entries.{entry_view, entries_view}
-use Rattle.memory_model.specs.Fields.{first_broken, number}
+use Rattle.memory_model.specs.Fields.{first_broken}
 use Rattle.memory_model.specs.Slot.{month_fields, month_keeps, month_entry}
-use Rattle.state_codec.specs.Slot.{entries_to}
 use Rattle.state_codec.proofs.MonthSteps.{month_kept, month_broken, entries_to-more}
 use Rattle.state_codec.proofs.slot_reading.read_months.Goals as goal
 

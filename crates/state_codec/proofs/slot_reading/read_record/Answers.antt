@@ -1,13 +1,12 @@
-use Rattle.std.proofs.Common.{◌≡◌, ◌∙◌, ◌≤◌, ◌-◌, ℕ, List, [], ap, sym, None, Some, Ok, true, arith}
+use Rattle.std.proofs.Common.{◌≡◌, ◌∙◌, ◌≤◌, ℕ, [], ap, sym, None, true, arith}
 use Rattle.std.proofs.lemmas.Result.{err_from_is_err_and}
 use Rattle.std.proofs.lemmas.Bool.{leb-true}
 use Rattle.billing_memory.specs.Entries.{set_day_view}
-use Rattle.billing_memory.specs.Records.{record_view}
 use Rattle.memory_model.specs.Fields.{first_broken, number}
 use Rattle.memory_model.specs.Slot.{month_fields, record_of, samples_of, set_day_of, months_of, set_day_keeps, set_day_field}
 use Rattle.state_codec.specs.Slot.{head_fields, head_of, head_view, sample_fields, sum_fields, sums_of, sums_view, set_day_fields}
 use Rattle.state_codec.proofs.Checks.{all_kept, checked-ok, first_broken-kept}
-use Rattle.state_codec.proofs.Slots.{Reaches, tail_fields, from_months, from_set_day, from_sums, from_samples, begins, step, stop, stop_months, step_months, broken, whole, set_day_passed, row, order}
+use Rattle.state_codec.proofs.Slots.{from_months, from_set_day, from_sums, from_samples, begins, step, stop, stop_months, step_months, broken, whole, set_day_passed, row, order}
 use Rattle.state_codec.proofs.slot_reading.read_record.Goals as goal
 
 pub returns-in_err-head : goal.returns-in_err-head
