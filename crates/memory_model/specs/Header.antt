@@ -1,0 +1,97 @@
+-- The header: the first 256 bytes of a memory, of which byte 0 is the mark.
+use Rattle.std.specs.Prelude.{ℕ, ◌%◌, ◌==◌, nat_le, if◌then◌else◌, List, [], ◌∷◌, Result}
+use Rattle.std.specs.Int.{is_in_range}
+use Rattle.heat_model.specs.Heat.{Place, Flow, Return}
+use Rattle.config_model.specs.Configuration.{Configuration, is_capital, is_sensor, is_pulse}
+use Rattle.memory_model.specs.Fields.{Field, any, field, value, zero_byte, zero_bytes, first_broken, unless_broken}
+
+-- the format is any odd number
+abbrev pub format_field : Field
+format_field = field 1 1 (λ n. n % 2 == 1)
+
+abbrev pub serial_field : Field
+serial_field = field 2 4 (λ n. nat_le n 99999999)
+
+abbrev pub first_letter_field : Field
+first_letter_field = field 6 1 is_capital
+
+abbrev pub second_letter_field : Field
+second_letter_field = field 7 1 is_capital
+
+abbrev pub third_letter_field : Field
+third_letter_field = field 8 1 is_capital
+
+abbrev pub version_field : Field
+version_field = field 9 1 any
+
+abbrev pub address_field : Field
+address_field = field 10 1 (λ n. nat_le n 250)
+
+-- 0 in the flow, 1 in the return
+abbrev pub place_field : Field
+place_field = field 11 1 (λ n. nat_le n 1)
+
+abbrev pub pressure_field : Field
+pressure_field = field 12 2 (is_in_range 1100 4000)
+
+abbrev pub sensor_field : Field
+sensor_field = field 14 2 is_sensor
+
+abbrev pub litres_field : Field
+litres_field = field 16 2 is_pulse
+
+abbrev pub energy_decimals_field : Field
+energy_decimals_field = field 18 1 (λ n. nat_le n 3)
+
+abbrev pub volume_decimals_field : Field
+volume_decimals_field = field 19 1 (λ n. nat_le n 3)
+
+abbrev pub set_month_field : Field
+set_month_field = field 20 1 (is_in_range 1 12)
+
+abbrev pub opening_day_field : Field
+opening_day_field = field 22 2 (λ n. nat_le n 36524)
+
+-- in the order in which they are checked
+unfoldable pub header_fields : List Field
+header_fields =
+    format_field
+    ∷ serial_field
+    ∷ first_letter_field
+    ∷ second_letter_field
+    ∷ third_letter_field
+    ∷ version_field
+    ∷ address_field
+    ∷ place_field
+    ∷ pressure_field
+    ∷ sensor_field
+    ∷ litres_field
+    ∷ energy_decimals_field
+    ∷ volume_decimals_field
+    ∷ set_month_field
+    ∷ zero_byte 21
+    ∷ opening_day_field
+    ∷ zero_bytes 24 232
+
+abbrev pub place_of : ℕ → Place
+place_of n = if n == 0 then Flow else Return
+
+unfoldable pub configuration_of : List ℕ → Configuration
+configuration_of bytes = record {
+  serial = value serial_field bytes;
+  maker = value first_letter_field bytes ∷ value second_letter_field bytes ∷ value third_letter_field bytes ∷ [];
+  version = value version_field bytes;
+  address = value address_field bytes;
+  place = place_of (value place_field bytes);
+  pressure_kpa = value pressure_field bytes;
+  sensor_ohm = value sensor_field bytes;
+  litres_per_pulse = value litres_field bytes;
+  energy_decimals = value energy_decimals_field bytes;
+  volume_decimals = value volume_decimals_field bytes;
+  set_month = value set_month_field bytes;
+  opening_day = value opening_day_field bytes;
+}
+
+-- the configuration that the header's 256 bytes give, or the offset of the first field that breaks its rule
+unfoldable pub header_in : List ℕ → Result Configuration ℕ
+header_in bytes = unless_broken (first_broken header_fields bytes) (configuration_of bytes)

@@ -1,0 +1,13 @@
+pub mod Numbers
+pub mod Checks
+pub mod Wide
+pub mod Spelling
+pub mod Headers
+pub mod HeaderLaws
+pub mod MonthLaws
+pub mod MonthSteps
+pub mod Entries
+pub mod Slots
+pub mod Writes
+pub mod SlotSpelled
+pub mod SlotAgain

@@ -1,0 +1,81 @@
+-- The parts of the header.
+use Rattle.std.specs.Prelude.{ℕ, List, [], ◌∷◌, ◌++◌, replicate}
+use Rattle.std.specs.Int.{w16, w32, to_le_bytes}
+use Rattle.config_model.specs.Configuration.{Configuration}
+use Rattle.heat_model.specs.Heat as heat
+use Rattle.meter_config.specs.Views.{place_view, sensor_ohm}
+use Rattle.memory_model.specs.Fields.{Field, value, zero_byte}
+use Rattle.memory_model.specs.Header.{format_field, serial_field, first_letter_field, second_letter_field, third_letter_field, version_field, address_field, place_field, place_of, pressure_field, sensor_field, litres_field, energy_decimals_field, volume_decimals_field, set_month_field, opening_day_field}
+use Rattle.state_codec.specs.declared.header_parts.Identity.{Identity}
+use Rattle.state_codec.specs.declared.header_parts.Measuring.{Measuring}
+use Rattle.state_codec.specs.declared.header_parts.Billing.{Billing}
+
+abbrev pub identity_fields : List Field
+identity_fields =
+    format_field
+    ∷ serial_field
+    ∷ first_letter_field
+    ∷ second_letter_field
+    ∷ third_letter_field
+    ∷ version_field
+    ∷ address_field
+    ∷ []
+
+abbrev pub identity_of : List ℕ → ℕ × List ℕ × ℕ × ℕ
+identity_of bytes = (
+  value serial_field bytes,
+  value first_letter_field bytes ∷ value second_letter_field bytes ∷ value third_letter_field bytes ∷ [],
+  value version_field bytes,
+  value address_field bytes,
+)
+
+abbrev pub identity_view : Identity → ℕ × List ℕ × ℕ × ℕ
+identity_view x = (x.serial, x.maker, x.version, x.address)
+
+abbrev pub measuring_fields : List Field
+measuring_fields = place_field ∷ pressure_field ∷ sensor_field ∷ litres_field ∷ []
+
+abbrev pub measuring_of : List ℕ → heat.Place × ℕ × ℕ × ℕ
+measuring_of bytes = (
+  place_of (value place_field bytes),
+  value pressure_field bytes,
+  value sensor_field bytes,
+  value litres_field bytes,
+)
+
+abbrev pub measuring_view : Measuring → heat.Place × ℕ × ℕ × ℕ
+measuring_view x = (place_view x.place, x.pressure_kpa, sensor_ohm x.sensor, x.per_pulse)
+
+abbrev pub billing_fields : List Field
+billing_fields = energy_decimals_field ∷ volume_decimals_field ∷ set_month_field ∷ zero_byte 21 ∷ opening_day_field ∷ []
+
+abbrev pub billing_of : List ℕ → ℕ × ℕ × ℕ × ℕ
+billing_of bytes = (
+  value energy_decimals_field bytes,
+  value volume_decimals_field bytes,
+  value set_month_field bytes,
+  value opening_day_field bytes,
+)
+
+abbrev pub billing_view : Billing → ℕ × ℕ × ℕ × ℕ
+billing_view x = (x.energy_decimals, x.volume_decimals, x.set_month, x.opening_day.number)
+
+-- ---- a configuration's one spelling
+
+abbrev pub place_code : heat.Place → ℕ
+place_code heat.Flow = 0
+place_code heat.Return = 1
+
+unfoldable pub identity_bytes : Configuration → List ℕ
+identity_bytes c = 1 ∷ (to_le_bytes w32 c.serial ++ (c.maker ++ c.version ∷ c.address ∷ []))
+
+unfoldable pub measuring_bytes : Configuration → List ℕ
+measuring_bytes c =
+    place_code c.place ∷ (to_le_bytes w16 c.pressure_kpa ++ (to_le_bytes w16 c.sensor_ohm ++ to_le_bytes w16 c.litres_per_pulse))
+
+unfoldable pub billing_bytes : Configuration → List ℕ
+billing_bytes c = c.energy_decimals ∷ c.volume_decimals ∷ c.set_month ∷ 0 ∷ to_le_bytes w16 c.opening_day
+
+-- bytes 1 to 255
+unfoldable pub header_bytes : Configuration → List ℕ
+header_bytes c = identity_bytes c ++ (measuring_bytes c ++ (billing_bytes c ++ replicate 232 0))

@@ -1,0 +1,86 @@
+//! The header's bytes, written.
+
+ghost use Rattle.std.specs.Prelude.{◌≡◌, ℕ, List, ◌∷◌, ◌+◌, ◌≤◌, ◌++◌, length, drop, Ok};
+ghost use Rattle.meter_config.specs.Views.{config_view, place_view, sensor_ohm};
+ghost use Rattle.memory_model.specs.Fields.{AreBytes};
+ghost use Rattle.memory_model.specs.Header.{header_in};
+ghost use Rattle.state_codec.specs.Header.{place_code, identity_bytes, measuring_bytes, billing_bytes};
+
+use crate::fields::fill_front;
+use meter_config::Config;
+use pt_curve::Sensor;
+use sensor_pair::Place;
+
+/// The bytes 1 to 255 of a memory with this configuration, to stand behind the mark A5.
+///
+/// [`decode_header`](crate::decode_header) reads the same configuration again. Of the bytes that it
+/// reads as this configuration, all but byte 1 are those that are written here.
+pub fn encode_header(c: &Config) -> [u8; 255]
+    ensures read_again { header_in (165 ∷ result) ≡ Ok (config_view c.now) }
+    ensures one_spelling { (bytes : List ℕ) → AreBytes bytes → length bytes ≡ 256
+        → header_in bytes ≡ Ok (config_view c.now) → drop 1 result ≡ drop 2 bytes }
+{
+    let mut out = [0; 255];
+    fill_front(
+        &mut out,
+        &write_identity(c),
+        &write_measuring(c),
+        &write_billing(c),
+    );
+    out
+}
+
+#[tactic(auto, unfolding(crate::specs::Header::identity_bytes))]
+fn write_identity(c: &Config) -> [u8; 10]
+    ensures { result ≡ identity_bytes (config_view c.now) }
+{
+    let s = c.serial.to_le_bytes();
+    let m = c.maker;
+    [
+        1, s[0], s[1], s[2], s[3], m[0], m[1], m[2], c.version, c.address,
+    ]
+}
+
+#[tactic(auto, unfolding(crate::specs::Header::measuring_bytes))]
+fn write_measuring(c: &Config) -> [u8; 7]
+    ensures { result ≡ measuring_bytes (config_view c.now) }
+{
+    let p = c.pressure_kpa.to_le_bytes();
+    let s = ohm_of(c.sensor).to_le_bytes();
+    let l = c.per_pulse.to_le_bytes();
+    [code_of(c.place), p[0], p[1], s[0], s[1], l[0], l[1]]
+}
+
+#[tactic(auto, unfolding(crate::specs::Header::billing_bytes))]
+fn write_billing(c: &Config) -> [u8; 6]
+    ensures { result ≡ billing_bytes (config_view c.now) }
+{
+    let d = c.opening_day.number.to_le_bytes();
+    [
+        c.energy_decimals,
+        c.volume_decimals,
+        c.set_month,
+        0,
+        d[0],
+        d[1],
+    ]
+}
+
+fn code_of(place: Place) -> u8
+    ensures { result ≡ place_code (place_view place) }
+{
+    match place {
+        Place::Flow => 0,
+        Place::Return => 1,
+    }
+}
+
+fn ohm_of(sensor: Sensor) -> u16
+    ensures { result ≡ sensor_ohm sensor }
+{
+    match sensor {
+        Sensor::Pt100 => 100,
+        Sensor::Pt500 => 500,
+        Sensor::Pt1000 => 1_000,
+    }
+}

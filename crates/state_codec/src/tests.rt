@@ -1,0 +1,91 @@
+ghost use Rattle.std.specs.Prelude.{◌≡◌, slice_index};
+
+use crate::*;
+use billing_memory::{Day, MeterRecord};
+use energy_register::Step;
+use meter_config::Config;
+use std::test::Fail;
+
+// The fields of the standard configuration, behind the mark.
+const FIELDS: [u8; 23] = [
+    0x01, 0x4e, 0x61, 0xbc, 0x00, 0x41, 0x42, 0x43, 0x01, 0x01, 0x01, 0x40, 0x06, 0xf4, 0x01, 0x0a,
+    0x00, 0x00, 0x02, 0x01, 0x00, 0x4c, 0x22,
+];
+
+fn header() -> [u8; 256]
+    ensures { slice_index result 0 ≡ 165 }
+{
+    let mut bytes = [0; 256];
+    bytes[1..24].copy_from_slice(&FIELDS);
+    bytes[0] = 0xa5;
+    bytes
+}
+
+#[test]
+fn standard_header_is_written(rt: HostRuntime) {
+    let bytes = encode_header(&Config::standard());
+    assert_eq!(rt; bytes[..23], FIELDS[..]);
+    assert!(rt; bytes[23..].iter().all(|byte| *byte == 0));
+}
+
+#[test]
+fn standard_header_is_read(rt: HostRuntime) {
+    assert_eq!(rt; decode_header(&header()), Ok(Config::standard()));
+}
+
+#[test]
+fn header_with_an_unknown_place(rt: HostRuntime) {
+    let mut bytes = header();
+    bytes[11] = 2;
+    assert_eq!(rt; decode_header(&bytes), Err(Foreign { at: 11 }));
+}
+
+fn opening() -> MeterRecord {
+    MeterRecord::opening(Day { number: 8_780 })
+}
+
+#[test]
+fn opening_record_is_read_again(rt: HostRuntime) {
+    let bytes = encode_record(&opening());
+    assert_eq!(rt; bytes[8], 0x4c);
+    assert_eq!(rt; bytes[9], 0x22);
+    assert!(rt; bytes[..8].iter().all(|byte| *byte == 0));
+    assert!(rt; bytes[10..].iter().all(|byte| *byte == 0));
+    assert_eq!(rt; decode_record(&bytes), Ok(opening()));
+}
+
+#[test]
+fn record_with_a_day_after_2099(rt: HostRuntime) {
+    let mut bytes = encode_record(&opening());
+    bytes[8] = 0xff;
+    bytes[9] = 0xff;
+    assert_eq!(rt; decode_record(&bytes), Err(Foreign { at: 8 }));
+}
+
+// The entry of 2024-02-01 with 3 pulses, -5 mJ and a bound of 7 mJ.
+const ENTRY: [u8; 48] = [
+    0x5d, 0x22, 0x00, 0x00, 0x00, 0x00, 0x00, 0x00, 0x03, 0x00, 0x00, 0x00, 0x00, 0x00, 0x00, 0x00,
+    0xfb, 0xff, 0xff, 0xff, 0xff, 0xff, 0xff, 0xff, 0xff, 0xff, 0xff, 0xff, 0xff, 0xff, 0xff, 0xff,
+    0x07, 0x00, 0x00, 0x00, 0x00, 0x00, 0x00, 0x00, 0x00, 0x00, 0x00, 0x00, 0x00, 0x00, 0x00, 0x00,
+];
+
+#[test]
+fn record_with_entries_is_read_again(rt: HostRuntime) -> Result<(), Fail> {
+    let mut record = MeterRecord::opening(Day { number: 8_780 });
+    let step = Step {
+        e_mj: -5,
+        b_mj: 7,
+        faulty: 0,
+    };
+    let register = record.register.after(step, 3)?;
+    record.register = register;
+    let moved = record.move_to(Day { number: 8_797 }, 2);
+    assert!(rt; moved.is_ok());
+    let bytes = encode_record(&record);
+    assert_eq!(rt; (bytes[11], bytes[12]), (1, 1));
+    assert_eq!(rt; bytes[72..120], ENTRY[..]);
+    assert_eq!(rt; bytes[120..168], ENTRY[..]);
+    assert!(rt; bytes[168..].iter().all(|byte| *byte == 0));
+    assert_eq!(rt; decode_record(&bytes), Ok(record));
+    Ok(())
+}
