@@ -10,7 +10,8 @@ ghost use Rattle.accept_model.specs.Values.{capitals, date, digits, place, whole
 ghost use Rattle.accept_model.specs.Keys.{name_of};
 ghost use Rattle.accept_model.specs.Accepted.{value_at};
 ghost use Rattle.meter_config.specs.Faults.{Answers};
-ghost use Rattle.meter_config.specs.Views.{place_view, sensor_ohm};
+ghost use Rattle.sensor_pair.specs.Place.{place_view};
+ghost use Rattle.meter_config.specs.Views.{sensor_ohm};
 
 use crate::fault::ConfigFault;
 use crate::keys::member;

@@ -3,7 +3,8 @@ use Rattle.std.specs.Prelude.{ℕ, List, [], ◌∷◌, ◌++◌, replicate}
 use Rattle.std.specs.Int.{w16, w32, to_le_bytes}
 use Rattle.config_model.specs.Configuration.{Configuration}
 use Rattle.heat_model.specs.Heat as heat
-use Rattle.meter_config.specs.Views.{place_view, sensor_ohm}
+use Rattle.sensor_pair.specs.Place.{place_view}
+use Rattle.meter_config.specs.Views.{sensor_ohm}
 use Rattle.memory_model.specs.Fields.{Field, value, zero_byte}
 use Rattle.memory_model.specs.Header.{format_field, serial_field, first_letter_field, second_letter_field, third_letter_field, version_field, address_field, place_field, place_of, pressure_field, sensor_field, litres_field, energy_decimals_field, volume_decimals_field, set_month_field, opening_day_field}
 use Rattle.state_codec.specs.declared.header_parts.Identity.{Identity}

@@ -1,7 +1,8 @@
 //! The header's bytes, written.
 
 ghost use Rattle.std.specs.Prelude.{◌≡◌, ℕ, List, ◌∷◌, ◌+◌, ◌≤◌, ◌++◌, length, drop, Ok};
-ghost use Rattle.meter_config.specs.Views.{config_view, place_view, sensor_ohm};
+ghost use Rattle.sensor_pair.specs.Place.{place_view};
+ghost use Rattle.meter_config.specs.Views.{config_view, sensor_ohm};
 ghost use Rattle.memory_model.specs.Fields.{AreBytes};
 ghost use Rattle.memory_model.specs.Header.{header_in};
 ghost use Rattle.state_codec.specs.Header.{place_code, identity_bytes, measuring_bytes, billing_bytes};
