@@ -1,8 +1,9 @@
 -- Quotients and products by powers of two, five and ten.
-use Rattle.std.proofs.Common.{◌≡◌, ℕ, ◌+◌, ◌-◌, ◌*◌, ◌/◌, ◌^◌, ◌<◌, ◌≤◌, min, inl, inr, arith, lit<, lit≤, ap, sym, ◌∙◌, add-one}
+use Rattle.std.proofs.Common.{◌≡◌, ℕ, ◌+◌, ◌-◌, ◌*◌, ◌/◌, ◌%◌, ◌^◌, ◌<◌, ◌≤◌, min, inl, inr, arith, lit<, lit≤, ap, sym, ◌∙◌, add-one, suc-le-suc}
 use Rattle.std.proofs.lemmas.Bool.{cases_lt}
-use Rattle.std.proofs.Math.Nat.{div-div-eq-div-mul, mul-div-mul_right}
-use Rattle.std.proofs.lemmas.Nat.{mul-pow, pow-add, pow_pos, div-mul-add}
+use Rattle.std.proofs.Math.Nat.{div-div-eq-div-mul, mul-div-mul_right, mod-eq_of_lt}
+use Rattle.std.proofs.lemmas.Nat.{mul-pow, pow-add, pow_pos, div-mul-add, div-add-mod', leading_length}
+use Rattle.std.specs.Int.Count.{count_leading_zeros}
 use native.Mathlib.Nat.{le_trans, mul-le-mul_left, pow-le-pow_right, lt_of_mul-lt-mul_right, pow-suc, one-le-pow, mul-pos, le_of_mul-le-mul_right, mul-le-mul}
 
 -- ---- long division
@@ -11,17 +12,42 @@ whole_small w r d m i n e h k =
     let up : m * 2 ^ i ≤ m * 2 ^ n = mul-le-mul_left m (pow-le-pow_right {n = 2} (lit< tt) h) in
     lt_of_mul-lt-mul_right d {m = w} {n = 2 ^ 62} (omega arith)
 
-pub doubled : (w r d m i w' r' : ℕ) → w * d + r ≡ m * 2 ^ i → w' * d + r' ≡ (w * d + r) + (w * d + r) → w' * d + r' ≡ m * 2 ^ (i + 1)
-doubled w r d m i w' r' e f =
-    let next : 2 ^ (i + 1) ≡ 2 ^ i * 2 = (let s : 2 ^ (i + 1) ≡ 2 ^ i * 2 = rw add-one (pow-suc 2 i) in s) in
-    rw next (omega arith)
+-- a remainder below d has room for as many more bits as d has leading zeros
+pub room_some : (d : ℕ) → d < 2 ^ 127 → 0 < count_leading_zeros 128 d
+room_some d h =
+    let length = leading_length 128 d (omega arith) in
+    elim (cases_lt 0 (count_leading_zeros 128 d)) [
+      | inl some ↦ some
+      | inr none ↦ (let all : length.0 ≡ 128 = omega (arith, length.1, none) in let much = rw all at length.3 in omega (arith, much))
+    ]
+
+pub room_fits : (d r bits : ℕ) → d < 2 ^ 127 → r < d → bits ≤ count_leading_zeros 128 d → r * 2 ^ bits < 2 ^ 128
+room_fits d r bits h small few =
+    let length = leading_length 128 d (omega arith) in
+    let up : 2 ^ bits ≤ 2 ^ count_leading_zeros 128 d = pow-le-pow_right {n = 2} (lit< tt) few in
+    let all : 2 ^ count_leading_zeros 128 d * 2 ^ length.0 ≡ 2 ^ 128 = sym (pow-add 2 (count_leading_zeros 128 d) length.0) ∙ ap (λ k. 2 ^ k) length.1 in
+    let most : (r + 1) * 2 ^ bits ≤ 2 ^ length.0 * 2 ^ count_leading_zeros 128 d = mul-le-mul {n₂ = 2 ^ length.0} {m₂ = 2 ^ count_leading_zeros 128 d} (omega (arith, length.2)) up in
+    let some : 0 < 2 ^ bits = pow_pos bits in
+    omega (arith, most, all, some)
+
+shifted : (w r d m i bits : ℕ) → w * d + r ≡ m * 2 ^ i → (w * 2 ^ bits + r * 2 ^ bits / d) * d + r * 2 ^ bits % d ≡ m * 2 ^ (i + bits)
+shifted w r d m i bits e =
+    let all : (w * d + r) * 2 ^ bits ≡ m * 2 ^ i * 2 ^ bits = ap (λ t. t * 2 ^ bits) e in
+    rw (pow-add 2 i bits) (omega (arith, all, div-add-mod' (r * 2 ^ bits) d))
+
+-- one turn of the loop, in numbers that wrap at 2^128 and don't
+pub turn : (w r d m i bits n : ℕ) → w * d + r ≡ m * 2 ^ i → i + bits ≤ n → m * 2 ^ n < 2 ^ 62 * d → r * 2 ^ bits < 2 ^ 128 → let next = r * 2 ^ bits % 2 ^ 128 in let whole = w * 2 ^ bits % 2 ^ 128 + next / d in (whole * d + next % d ≡ m * 2 ^ (i + bits)) × (whole < 2 ^ 62)
+turn w r d m i bits n e h size fits =
+    let exact = shifted w r d m i bits e in
+    let small = whole_small (w * 2 ^ bits + r * 2 ^ bits / d) (r * 2 ^ bits % d) d m (i + bits) n exact h size in
+    rw (mod-eq_of_lt fits, mod-eq_of_lt {n = w * 2 ^ bits} {m = 2 ^ 128} (omega (arith, small))) (exact, small)
 
 pub quotient_of : (w r d n : ℕ) → r < d → w * d + r ≡ n → w ≡ n / d
 quotient_of w r d n small e = rw (← e) (sym (div-mul-add w d r small))
 
 -- ---- powers
-pub five_small : (n : ℕ) → n ≤ 54 → 5 ^ n ≤ 2 ^ 127
-five_small n h = le_trans (pow-le-pow_right {n = 5} (lit< tt) h) (lit≤ tt)
+pub five_small : (n : ℕ) → n ≤ 54 → 5 ^ n < 2 ^ 127
+five_small n h = le_trans (suc-le-suc (pow-le-pow_right {n = 5} (lit< tt) h)) (lit≤ tt)
 
 pub five_above : (n : ℕ) → 0 < 5 ^ n
 five_above n = one-le-pow n 5 (lit< tt)

@@ -1,24 +1,23 @@
 ghost use Rattle.std.specs.Prelude.{◌≡◌, ◌+◌, ◌-◌, ◌*◌, ◌/◌, ◌^◌, ◌<◌, ◌≤◌};
 
-// m * 2^shift / d by long division in base 2, which keeps each remainder below 2 d
+// m * 2^shift / d by long division, in each turn as many bits as a remainder below d has room for
 fn long_quotient(m: u128, d: u128, shift: u32) -> u128
     requires positive { 0 < d }
-    requires divisor { d ≤ 2 ^ 127 }
+    requires divisor { d < 2 ^ 127 }
     requires size { m * 2 ^ shift < 2 ^ 62 * d }
     ensures value { result ≡ m * 2 ^ shift / d }
     ensures range { result < 2 ^ 62 }
 {
+    let room = d.leading_zeros();
     let mut whole = m / d;
     let mut rest = m % d;
-    for _i in 0..shift {
-        let twice = rest + rest;
-        if twice >= d {
-            whole = whole + whole + 1;
-            rest = twice - d;
-        } else {
-            whole = whole + whole;
-            rest = twice;
-        }
+    let mut left = shift;
+    while left > 0 {
+        let bits = left.min(room);
+        let next = rest << bits;
+        whole = (whole << bits) + next / d;
+        rest = next % d;
+        left -= bits;
     }
     whole
 }

@@ -49,6 +49,18 @@ fn enclosed_by_hand(rt: HostRuntime) {
     };
     assert_eq!(rt; enclose::<56>(&tiny, 96), Enc::<56>::of_ends(0, 1));
 
+    // the last row, whose quotient takes several turns
+    let last = Term {
+        i: 32,
+        j: -41,
+        mantissa: -93_537_087_292_458,
+        exp10: -39,
+    };
+    assert_eq!(rt;
+        enclose::<56>(&last, 88),
+        Enc::<56>::of_ends(-2_085_946_750_321_822_509, -2_085_946_750_321_822_508)
+    );
+
     let zero = Term {
         i: 0,
         j: 0,

@@ -1,43 +1,26 @@
-use Rattle.std.proofs.Common.{arith, ◌≡◌, ◌*◌, ◌^◌}
-use Rattle.dec_tables.proofs.Divisions.{whole_small, doubled, quotient_of}
+use Rattle.std.proofs.Common.{arith, ◌≡◌, ◌+◌, ◌-◌, ◌*◌, ◌/◌, ◌%◌, ◌^◌, ◌<◌, ◌∙◌, ap}
+use Rattle.std.proofs.Math.Nat.{mod-lt}
+use Rattle.dec_tables.proofs.Divisions.{room_some, room_fits, turn}
 use Rattle.dec_tables.proofs.division.long_quotient.Goals as goal
-use Rattle.dec_tables.proofs.division.long_quotient.Goals.{In-loop-i, then-twice-d, else-twice-d}
+
+turned : (c : goal.After-min-bits) → let next = c.loop-left.rest * 2 ^ c.min-bits.result % 2 ^ 128 in let whole = c.loop-left.whole * 2 ^ c.min-bits.result % 2 ^ 128 + next / c.args.d in (whole * c.args.d + next % c.args.d ≡ c.args.m * 2 ^ (c.args.shift - c.loop-left.left + c.min-bits.result)) × (whole < 2 ^ 62)
+turned c =
+    let fits = room_fits c.args.d c.loop-left.rest c.min-bits.result c.requires.divisor c.loop-left.invariant.rest (omega (arith, c.min-bits.ensures)) in
+    turn c.loop-left.whole c.loop-left.rest c.args.d c.args.m (c.args.shift - c.loop-left.left) c.min-bits.result c.args.shift c.loop-left.invariant.exact (omega (arith, c.min-bits.ensures, c.loop-left.invariant.left)) c.requires.size fits
 
 pub overflow_add-whole : goal.overflow_add-whole
 overflow_add-whole c =
-    let small = whole_small c.loop-i.whole c.loop-i.rest c.args.d c.args.m c.loop-i._i c.args.shift c.loop-i.invariant.exact (omega (arith, c.loop-i-test.true)) c.requires.size in
-    omega arith
+    let small = (turned c).1 in
+    omega (arith, small)
 
-pub overflow_add-whole-then-twice-d : goal.overflow_add-whole-then-twice-d
-overflow_add-whole-then-twice-d c =
-    let small = whole_small c.loop-i.whole c.loop-i.rest c.args.d c.args.m c.loop-i._i c.args.shift c.loop-i.invariant.exact (omega (arith, c.loop-i-test.true)) c.requires.size in
-    omega arith
+pub loop-left-smaller : goal.loop-left-smaller
+loop-left-smaller c = omega (arith, c.min-bits.ensures, room_some c.args.d c.requires.divisor, c.loop-left-test.true)
 
-pub overflow_add-whole-else-twice-d : goal.overflow_add-whole-else-twice-d
-overflow_add-whole-else-twice-d c =
-    let small = whole_small c.loop-i.whole c.loop-i.rest c.args.d c.args.m c.loop-i._i c.args.shift c.loop-i.invariant.exact (omega (arith, c.loop-i-test.true)) c.requires.size in
-    omega arith
-
-pub loop-i-preserved : goal.loop-i-preserved
-loop-i-preserved c =
-    elim c.if-twice-d.branch [
-      | then-twice-d w ↦ record {
-        exact = doubled c.loop-i.whole c.loop-i.rest c.args.d c.args.m c.loop-i._i c.if-twice-d.whole c.if-twice-d.rest c.loop-i.invariant.exact (rw (w.whole-is, w.rest-is) (omega (arith, w.if-twice-d.true)));
-        rest = omega (arith, c.loop-i.invariant.rest);
-      }
-      | else-twice-d w ↦ record {
-        exact = doubled c.loop-i.whole c.loop-i.rest c.args.d c.args.m c.loop-i._i c.if-twice-d.whole c.if-twice-d.rest c.loop-i.invariant.exact (rw (w.whole-is, w.rest-is) (omega arith));
-        rest = omega arith;
-      }
-    ]
-
-at_end : (c : goal.After-loop-i) → c.args.shift ≡ c.loop-i._i
-at_end c = omega arith
-
-pub returns-clause-value : goal.returns-clause-value
-returns-clause-value c =
-    let exact = rw (← at_end c) at c.loop-i.invariant.exact in
-    quotient_of c.loop-i.whole c.loop-i.rest c.args.d (c.args.m * 2 ^ c.args.shift) c.loop-i.invariant.rest exact
-
-pub returns-clause-range : goal.returns-clause-range
-returns-clause-range c = whole_small c.loop-i.whole c.loop-i.rest c.args.d c.args.m c.loop-i._i c.args.shift c.loop-i.invariant.exact (omega (arith, at_end c)) c.requires.size
+pub loop-left-preserved : goal.loop-left-preserved
+loop-left-preserved c =
+    let bits : c.args.shift - c.loop-left.left + c.min-bits.result ≡ c.args.shift - (c.loop-left.left - c.min-bits.result) = omega (arith, c.min-bits.ensures, c.loop-left.invariant.left) in
+    record {
+      exact = (turned c).0 ∙ ap (λ k. c.args.m * 2 ^ k) bits;
+      rest = mod-lt _ c.requires.positive;
+      left = omega arith;
+    }
