@@ -1,4 +1,4 @@
-use Rattle.std.proofs.Common.{◌≡◌, ◌^◌, subst, sym}
+use Rattle.std.proofs.Common.{◌^◌, subst, sym}
 use Rattle.std.proofs.lemmas.Nat.{pow_pos}
 use Rattle.interval_num.proofs.PowerLemmas.{IsPowerBelow, IsPowerBelow-one, IsPowerBelow-even, IsPowerBelow-odd}
 use Rattle.interval_num.proofs.powers.+power_floor.Goals as goal
@@ -28,4 +28,3 @@ returns-else-n-eq0-clause-below t c = (IsPowerBelow-odd (2 ^ c.args.s) c.args.l 
 pub returns-else-n-eq0-clause-above : goal.returns-else-n-eq0-clause-above
 returns-else-n-eq0-clause-above t c = (IsPowerBelow-odd (2 ^ c.args.s) c.args.l c.args.n c.power_floor-half.result c.floor_product-square.result c.floor_product.result (pow_pos c.args.s) c.requires.base c.requires.exponent c.if-n-eq1.false c.if-n-eq0.false
     (record { range = c.power_floor-half.ensures.range; below = c.power_floor-half.ensures.below; above = c.power_floor-half.ensures.above }) c.floor_product-square.ensures c.floor_product.ensures).above
-
