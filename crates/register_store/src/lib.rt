@@ -1,0 +1,13 @@
+//! The memory of a heat meter: a header, a gate, and two slots for its record, of which the gate chooses one.
+#![tactic(auto)]
+
+mod layout;
+mod recovery;
+mod side;
+mod store_fault;
+#[cfg(test)]
+mod tests;
+
+pub use recovery::recover;
+pub use side::Side;
+pub use store_fault::StoreFault;
