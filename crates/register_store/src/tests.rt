@@ -15,27 +15,33 @@ fn opening() -> MeterRecord {
 }
 
 #[test]
-fn memory_of_zeros_is_unformatted(rt: HostRuntime) -> Result<(), Fail> {
-    let mut board = SimBoard::new(rt.alloc(), &[0; 16384], 0, 0)?;
-    assert_eq!(rt;
-        recover(&mut board),
-        Err(StoreFault::Unformatted { byte: 0 })
-    );
+fn memory_of_zeros_is_formatted(rt: HostRuntime) -> Result<(), Fail> {
+    let c = Config::standard();
+    let m = opening();
+    let mut board = SimBoard::new(rt.alloc(), &[0; 16384], 4, 1_792)?;
+    assert_eq!(rt; recover(&mut board), Err(StoreFault::Unformatted { byte: 0 }));
+    format(&mut board, &c, &m)?;
+    assert_eq!(rt; format(&mut board, &c, &m), Err(StoreFault::Formatted));
+    assert_eq!(rt; recover(&mut board), Ok((c, m, Side::A)));
+    let image = board.image();
+    assert_eq!(rt; image[..24], HEADER[..]);
+    assert!(rt; image[24..520].iter().all(|byte| *byte == 0));
+    assert_eq!(rt; (image[520], image[521]), (0x4c, 0x22));
     Ok(())
 }
 
 #[test]
-fn memory_with_a_header_and_a_record(rt: HostRuntime) -> Result<(), Fail> {
+fn memory_with_foreign_fields(rt: HostRuntime) -> Result<(), Fail> {
     let mut board = SimBoard::new(rt.alloc(), &[0; 16384], 5, 40)?;
     assert_eq!(rt; board.store(0, &HEADER), Ok(()));
-    assert_eq!(rt; board.store(520, &[0x4c, 0x22]), Ok(()));
+    assert_eq!(rt; board.store(520, &[0xff, 0xff]), Ok(()));
+    assert_eq!(rt; recover(&mut board), Err(StoreFault::Foreign { at: 520 }));
+    assert_eq!(rt; board.store(256, &[0xff]), Ok(()));
+    assert_eq!(rt; board.store(2_056, &[0x4c, 0x22]), Ok(()));
     assert_eq!(rt;
         recover(&mut board),
-        Ok((Config::standard(), opening(), Side::A))
+        Ok((Config::standard(), opening(), Side::B))
     );
-    assert_eq!(rt; board.store(256, &[0xff]), Ok(()));
-    assert_eq!(rt; board.store(2056, &[0xff, 0xff]), Ok(()));
-    assert_eq!(rt; recover(&mut board), Err(StoreFault::Foreign { at: 2_056 }));
     assert_eq!(rt; board.store(11, &[2]), Ok(()));
     assert_eq!(rt; recover(&mut board), Err(StoreFault::Foreign { at: 11 }));
     Ok(())
