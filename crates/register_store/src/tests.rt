@@ -19,7 +19,10 @@ fn memory_of_zeros_is_formatted(rt: HostRuntime) -> Result<(), Fail> {
     let c = Config::standard();
     let m = opening();
     let mut board = SimBoard::new(rt.alloc(), &[0; 16384], 4, 1_792)?;
-    assert_eq!(rt; recover(&mut board), Err(StoreFault::Unformatted { byte: 0 }));
+    assert_eq!(rt;
+        recover(&mut board),
+        Err(StoreFault::Unformatted { byte: 0 })
+    );
     format(&mut board, &c, &m)?;
     assert_eq!(rt; format(&mut board, &c, &m), Err(StoreFault::Formatted));
     assert_eq!(rt; recover(&mut board), Ok((c, m, Side::A)));
