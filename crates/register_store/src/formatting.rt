@@ -1,6 +1,6 @@
 //! A memory that holds the first record of a meter.
 
-ghost use Rattle.std.specs.Prelude.{◌≡◌, ◌+◌, ◌≤◌, ◌++◌, ◌⊎◌, length, take, drop, slice_index, IfErr, IsErrOf, OnOk};
+ghost use Rattle.std.specs.Prelude.{◌≡◌, ◌+◌, ◌≤◌, ◌⊎◌, length, slice_index, IfErr, IsErrOf, OnOk};
 ghost use Rattle.meter_config.specs.Views.{config_view};
 ghost use Rattle.billing_memory.specs.Records.{record_view};
 ghost use Rattle.memory_model.specs.Stored.{mark};
