@@ -1,0 +1,4 @@
+pub mod Faults
+pub mod Recovered
+pub mod Works
+pub mod Formatted

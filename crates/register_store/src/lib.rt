@@ -1,0 +1,16 @@
+//! The memory of a heat meter: a header, a gate, and two slots for its record, of which the gate chooses one.
+#![tactic(auto)]
+
+mod formatting;
+mod layout;
+mod recovery;
+mod settling;
+mod side;
+mod store_fault;
+#[cfg(test)]
+mod tests;
+
+pub use formatting::format;
+pub use recovery::recover;
+pub use side::Side;
+pub use store_fault::StoreFault;

@@ -1,0 +1,51 @@
+use crate::*;
+use billing_memory::{Day, MeterRecord};
+use meter_board::{Board, SimBoard};
+use meter_config::Config;
+use std::test::Fail;
+
+// The header of the standard configuration up to its last byte that isn't 0.
+const HEADER: [u8; 24] = [
+    0xa5, 0x01, 0x4e, 0x61, 0xbc, 0x00, 0x41, 0x42, 0x43, 0x01, 0x01, 0x01, 0x40, 0x06, 0xf4, 0x01,
+    0x0a, 0x00, 0x00, 0x02, 0x01, 0x00, 0x4c, 0x22,
+];
+
+fn opening() -> MeterRecord {
+    MeterRecord::opening(Day { number: 8_780 })
+}
+
+#[test]
+fn memory_of_zeros_is_formatted(rt: HostRuntime) -> Result<(), Fail> {
+    let c = Config::standard();
+    let m = opening();
+    let mut board = SimBoard::new(rt.alloc(), &[0; 16384], 4, 1_792)?;
+    assert_eq!(rt;
+        recover(&mut board),
+        Err(StoreFault::Unformatted { byte: 0 })
+    );
+    format(&mut board, &c, &m)?;
+    assert_eq!(rt; format(&mut board, &c, &m), Err(StoreFault::Formatted));
+    assert_eq!(rt; recover(&mut board), Ok((c, m, Side::A)));
+    let image = board.image();
+    assert_eq!(rt; image[..24], HEADER[..]);
+    assert!(rt; image[24..520].iter().all(|byte| *byte == 0));
+    assert_eq!(rt; (image[520], image[521]), (0x4c, 0x22));
+    Ok(())
+}
+
+#[test]
+fn memory_with_foreign_fields(rt: HostRuntime) -> Result<(), Fail> {
+    let mut board = SimBoard::new(rt.alloc(), &[0; 16384], 5, 40)?;
+    assert_eq!(rt; board.store(0, &HEADER), Ok(()));
+    assert_eq!(rt; board.store(520, &[0xff, 0xff]), Ok(()));
+    assert_eq!(rt; recover(&mut board), Err(StoreFault::Foreign { at: 520 }));
+    assert_eq!(rt; board.store(256, &[0xff]), Ok(()));
+    assert_eq!(rt; board.store(2_056, &[0x4c, 0x22]), Ok(()));
+    assert_eq!(rt;
+        recover(&mut board),
+        Ok((Config::standard(), opening(), Side::B))
+    );
+    assert_eq!(rt; board.store(11, &[2]), Ok(()));
+    assert_eq!(rt; recover(&mut board), Err(StoreFault::Foreign { at: 11 }));
+    Ok(())
+}
