@@ -13,7 +13,8 @@ use Rattle.trace_model.specs.Images.{IsImage, SameOutside, NothingPending, is_wi
 use Rattle.trace_model.specs.Moments.{Grew, Leaves}
 use Rattle.trace_model.proofs.Images.{one_image, replaced_outside, length-replaced}
 use Rattle.trace_model.proofs.Moments.{Grew-weaker}
-use Rattle.register_store.specs.Formatted.{HoldsInA, UnformattedOr, Spells, zeros}
+use Rattle.register_store.specs.Formatted.{HoldsInA, UnformattedOr, Spells}
+use Rattle.state_codec.specs.Slot.{zeros}
 
 -- a memory that begins with the mark and bytes that spell it
 spelled_holds : (c : Configuration) (r : MeterRecord) (bytes rest : List ℕ) → Spells c r bytes → HoldsInA c r (165 ∷ (bytes ++ rest))

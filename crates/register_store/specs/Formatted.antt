@@ -1,5 +1,5 @@
 -- What a memory holds during a format and after it.
-use Rattle.std.specs.Prelude.{◌≡◌, ◌≢◌, ◌⊎◌, ℕ, List, ◌∷◌, take, length, slice_index, replicate, Ok}
+use Rattle.std.specs.Prelude.{◌≡◌, ◌≢◌, ◌⊎◌, ℕ, List, ◌∷◌, take, length, slice_index, Ok}
 use Rattle.config_model.specs.Configuration.{Configuration}
 use Rattle.metering_model.specs.Records.{MeterRecord}
 use Rattle.memory_model.specs.Fields.{part}
@@ -21,6 +21,3 @@ pub record Spells (c : Configuration) (r : MeterRecord) (bytes : List ℕ) : Typ
   pub header : header_in (mark ∷ take 255 bytes) ≡ Ok c
   pub gate : slice_index bytes 255 ≡ 0
   pub slot : record_in (part 511 1280 bytes) ≡ Ok r
-
-unfoldable pub zeros : ℕ → List ℕ
-zeros n = replicate n 0

@@ -9,7 +9,8 @@ ghost use Rattle.trace_model.specs.Moments.{Grew, Leaves};
 ghost use Rattle.meter_board.specs.Causes.{Rose};
 ghost use Rattle.register_store.specs.declared.store_fault.StoreFault.TheVariants.{Formatted, Memory, Cut};
 ghost use Rattle.register_store.specs.Works.{WorksBy, IsFormatFault};
-ghost use Rattle.register_store.specs.Formatted.{HoldsInA, UnformattedOr, Spells, zeros};
+ghost use Rattle.register_store.specs.Formatted.{HoldsInA, UnformattedOr, Spells};
+ghost use Rattle.state_codec.specs.Slot.{zeros};
 
 use crate::StoreFault;
 use crate::layout::MARK;
@@ -62,7 +63,7 @@ fn spelled(c: &Config, m: &MeterRecord) -> [u8; 1791]
     out
 }
 
-#[tactic(auto, unfolding(crate::specs::Formatted::zeros))]
+#[tactic(auto, unfolding(state_codec::specs::Slot::zeros))]
 fn blank() -> [u8; 1791]
     ensures { result ≡ zeros 1791 }
 {
