@@ -1,12 +1,24 @@
 -- Output lines answer script lines, one by one, and the kept events are read off the pairs.
-use Rattle.std.specs.Prelude.{◌≡◌, ℕ, ◌+◌, ℤ, List, [], ◌∷◌, ◌++◌, length, None, Some, Ok, slice_get}
+use Rattle.std.specs.Prelude.{◌≡◌, ℕ, ◌+◌, ℤ, Bool, true, false, IsTrue, List, [], ◌∷◌, ◌++◌, length, None, Some, Ok, slice_get}
+use Rattle.std.specs.List.{list_all}
 use Rattle.metering_model.specs.Events.{Event, Kept}
 use Rattle.metering_model.specs.Settings.{Settings}
 use Rattle.metering_model.specs.Records.{MeterRecord, record_after}
+use Rattle.trace_model.specs.Trace.{Entry, Store, Sync, Missed, Put, Arm, Cut}
 use Rattle.trace_model.specs.Output.{OutputLine}
 use Rattle.script_model.specs.Grammar.{Line, Metering, line_of}
 use Rattle.journal_model.specs.Faults.{fault_of}
 use Rattle.journal_model.specs.Texts.{ok_text}
+
+-- what may happen on the board after the output line before and up to the one that answers a line: for an event stores and
+-- syncs, but no cut of the power
+abbrev pub may_stand : Line → Entry → Bool
+may_stand (Metering event) (Store at bytes) = true
+may_stand (Metering event) Sync = true
+may_stand (Metering event) Missed = true
+may_stand (Metering event) (Put bytes) = false
+may_stand (Metering event) (Arm n keep fill) = false
+may_stand (Metering event) (Cut forced image) = false
 
 -- an `ok` line keeps the event: it shows the record that stands for the events kept so far and this one
 pub record Acknowledges (c : Settings) (o : MeterRecord) (old : List Kept) (event : Event) (output : OutputLine) (new : List Kept) : Type 0 where
@@ -14,7 +26,7 @@ pub record Acknowledges (c : Settings) (o : MeterRecord) (old : List Kept) (even
   pub bound_mj : ℕ
   pub kept : new ≡ old ++ record { event = event; energy_mj = energy_mj; bound_mj = bound_mj } ∷ []
   pub text : output.text ≡ ok_text c (record_after c o new)
-  pub quiet : output.segment ≡ []
+  pub segment : IsTrue (list_all (may_stand (Metering event)) output.segment)
 
 -- how an output line answers what a line says, where the events kept go from old to new
 abbrev pub Replies : Settings → MeterRecord → List Kept → Line → OutputLine → List Kept → Type 0

@@ -7,16 +7,21 @@ use Rattle.script_model.specs.Lines.{lines_of}
 use Rattle.trace_model.specs.Trace.{Trace}
 use Rattle.trace_model.specs.Output.{output_lines}
 use Rattle.journal_model.specs.Pairing.{NoneRefused}
-use Rattle.run_engine.specs.Dry.{Ran}
+use Rattle.run_engine.specs.Ran.{Ran}
 use Rattle.run_engine.specs.declared.Ended.{Ended}
-use Rattle.run_engine.specs.declared.Ended.TheVariants.{Done, Line, Read, Write, OutOfMemory}
+use Rattle.run_engine.specs.declared.Ended.TheVariants.{Done, Line, Memory, Read, Write, Unformatted, Foreign, OutOfMemory, Cut}
 
-pub completes : (c : Settings) (o : MeterRecord) (script : List ℕ) (trace : Trace) (ended : Ended) (A B : Type 0) → Ran c o script trace ended → (ended ≡ Read → A) → (ended ≡ Write → B) → NoneRefused c o (lines_of script) → (A → ⊥) → (B → ⊥) → (ended ≡ Done) ⊎ (ended ≡ OutOfMemory)
-completes c o script trace Done A B ran read write none no_a no_b = inl refl
-completes c o script trace OutOfMemory A B ran read write none no_a no_b = inr refl
-completes c o script trace Read A B ran read write none no_a no_b = absurd (no_a (read refl))
-completes c o script trace Write A B ran read write none no_a no_b = absurd (no_b (write refl))
-completes c o script trace (Line n kind) A B ran read write none no_a no_b =
+-- the faults do not stand: of the source, the output, the memory and the power
+pub completes : (c : Settings) (o : MeterRecord) (script : List ℕ) (trace : Trace) (ended : Ended) → Ran c o script trace ended → ¬ (ended ≡ Read) → ¬ (ended ≡ Write) → ¬ (ended ≡ Memory) → ¬ (ended ≡ Cut) → NoneRefused c o (lines_of script) → (ended ≡ Done) ⊎ (ended ≡ OutOfMemory)
+completes c o script trace Done ran no_read no_write no_memory no_cut none = inl refl
+completes c o script trace OutOfMemory ran no_read no_write no_memory no_cut none = inr refl
+completes c o script trace Read ran no_read no_write no_memory no_cut none = absurd (no_read refl)
+completes c o script trace Write ran no_read no_write no_memory no_cut none = absurd (no_write refl)
+completes c o script trace Memory ran no_read no_write no_memory no_cut none = absurd (no_memory refl)
+completes c o script trace Cut ran no_read no_write no_memory no_cut none = absurd (no_cut refl)
+completes c o script trace (Unformatted byte) ran no_read no_write no_memory no_cut none = absurd ran.ends
+completes c o script trace (Foreign at) ran no_read no_write no_memory no_cut none = absurd ran.ends
+completes c o script trace (Line n kind) ran no_read no_write no_memory no_cut none =
     let refusal = ran.ends.1 in
     let taken = none.taken (output_lines trace) ran.kept refusal.line ran.pairs refusal.place in
     absurd (differ _ (sym refusal.why ∙ taken))

@@ -12,7 +12,7 @@ use Rattle.trace_model.specs.Output.{OutputLine, bytes_put, is_output_line, outp
 use Rattle.trace_model.specs.Moments.{IsPrefix}
 use Rattle.journal_model.specs.Pairing.{Pairs}
 use Rattle.journal_model.proofs.Pairs.{pairs-front}
-use Rattle.run_engine.specs.Dry.{Metered}
+use Rattle.run_engine.specs.Ran.{Metered}
 use Rattle.std.specs.Prelude.{ℕ}
 
 -- the output lines of the whole begin with those of a moment

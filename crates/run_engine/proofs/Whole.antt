@@ -4,21 +4,22 @@ use Rattle.std.specs.List.{onto_first, slice_get}
 use Rattle.std.proofs.lemmas.Bool.{le-leb, leb-false, lt-ltb, ltb-false, cases_lt}
 use Rattle.std.proofs.lemmas.List.{append-nil}
 use Rattle.std.proofs.Math.ListN.{drop_of_length-le}
-use Rattle.metering_model.specs.Events.{Kept}
+use Rattle.metering_model.specs.Events.{Event, Kept}
 use Rattle.metering_model.specs.Settings.{Settings}
 use Rattle.metering_model.specs.Records.{MeterRecord, record_after}
 use Rattle.script_model.specs.Lines.{lines_of}
 use Rattle.script_model.specs.Grammar.{line_of}
-use Rattle.trace_model.specs.Trace.{Trace}
+use Rattle.trace_model.specs.Trace.{Entry, Trace}
 use Rattle.trace_model.specs.Output.{OutputLine, output_lines, open_segment}
 use Rattle.journal_model.specs.Faults.{Fault, TooMany, TooLong, fault_of, said_fault}
 use Rattle.journal_model.specs.Pairing.{Answers, Pairs}
 use Rattle.event_script.specs.Views.{fault_view}
 use Rattle.run_engine.proofs.Moments.{moments_of}
 use Rattle.run_engine.proofs.Runs.{at_drop}
-use Rattle.run_engine.specs.Dry.{Ran, EndsAt, dry_opening, dry_settings}
+use Rattle.recovery_model.specs.Right.{NextIsEvent}
+use Rattle.run_engine.specs.Ran.{Ran, EndsAt, IsRefused, StopsInEvent}
 use Rattle.run_engine.specs.declared.Ended.{Ended}
-use Rattle.run_engine.specs.declared.Ended.TheVariants.{Done, Line, Read, Write, OutOfMemory}
+use Rattle.run_engine.specs.declared.Ended.TheVariants.{Done, Line, Memory, Read, Write, Unformatted, Foreign, OutOfMemory, Cut}
 
 -- the same lines, but that the last of them may go on, and others follow
 abbrev pub Continues : List (List ℕ) → List (List ℕ) → Type 0
@@ -148,66 +149,76 @@ taken_place n lines more line h long place fits =
       by_cases ls found at long (inl same) = at ∙ ap Some (sym same)
       by_cases ls found at long (inr goes) = let none : total ls ≡ 0 = ap total goes.0 in absurd (omega (arith, fits.few, fits.short))
 
--- what a run over the front has to do with the whole
-moved : (c : Settings) (o : MeterRecord) (bytes more : List ℕ) (trace : Trace) (ended : Ended) → 121000001 ≤ length bytes → (ran : Ran c o bytes trace ended) → Transferred c o 0 [] (lines_of bytes) (lines_of (bytes ++ more)) (output_lines trace) ran.kept
-moved c o bytes more trace ended long ran = transfer c o 0 [] (lines_of bytes) (lines_of (bytes ++ more)) (output_lines trace) ran.kept (continues bytes more) (omega (arith, total_lines bytes)) ran.pairs
+-- what was answered of the front
+module _ (c : Settings) (o : MeterRecord) (bytes more : List ℕ) (outputs : List OutputLine) (kept : List Kept) (long : 121000001 ≤ length bytes) (pairs : Pairs c o 0 [] (lines_of bytes) outputs kept) where
+  moved : Transferred c o 0 [] (lines_of bytes) (lines_of (bytes ++ more)) outputs kept
+  moved = transfer c o 0 [] (lines_of bytes) (lines_of (bytes ++ more)) outputs kept (continues bytes more) (omega (arith, total_lines bytes)) pairs
+
+  pub pairs_too : Pairs c o 0 [] (lines_of (bytes ++ more)) outputs kept
+  pairs_too = moved.pairs
+
+  long_at : 121 * (1000000 - length outputs) < total (drop (length outputs) (lines_of bytes))
+  long_at = subst (λ k. 121 * (1000000 - k) < total (drop (length outputs) (lines_of bytes))) (zero-add _) moved.long
+
+  -- the next line, where it is taken or refused
+  taken_too : (line : List ℕ) → slice_get (lines_of bytes) (length outputs) ≡ Some line → fault_of (record_after c o kept) (length outputs) line ≡ None → slice_get (lines_of (bytes ++ more)) (length outputs) ≡ Some line
+  taken_too line place taken = taken_place (length outputs) (lines_of bytes) (lines_of (bytes ++ more)) line moved.continue long_at place (takable (record_after c o kept) (length outputs) line taken)
+
+  pub event_too : (event : Event) → NextIsEvent c o (lines_of bytes) kept (length outputs) event → NextIsEvent c o (lines_of (bytes ++ more)) kept (length outputs) event
+  event_too event next = record { line = next.line; place = taken_too next.line next.place next.taken; says = next.says; taken = next.taken }
+
+  refused_too : (fault : Fault) → IsRefused c o (lines_of bytes) kept (length outputs) fault → IsRefused c o (lines_of (bytes ++ more)) kept (length outputs) fault
+  refused_too fault is =
+      let found = at_place (record_after c o kept) (length outputs) (lines_of bytes) (lines_of (bytes ++ more)) is.line fault moved.continue long_at is.place is.why in
+      record { line = found.0; place = found.1; why = found.2 }
+
+  stops_too : (rest : List Entry) → StopsInEvent c o (lines_of bytes) kept (length outputs) rest → StopsInEvent c o (lines_of (bytes ++ more)) kept (length outputs) rest
+  stops_too rest stops = record { event = stops.event; next = event_too stops.event stops.next; allowed = stops.allowed }
+
+  -- not each line was answered
+  not_all : length outputs ≡ length (lines_of bytes) → ⊥
+  not_all all =
+      let gone : drop (length outputs) (lines_of bytes) ≡ [] = drop_of_length-le (lines_of bytes) (omega (arith, all)) in
+      let none : total (drop (length outputs) (lines_of bytes)) ≡ 0 = ap total gone in
+      omega (arith, moved.long)
+
+  ends_too : (rest : List Entry) (ended : Ended) → EndsAt c o (lines_of bytes) outputs rest kept ended → EndsAt c o (lines_of (bytes ++ more)) outputs rest kept ended
+  ends_too rest Done e = absurd (not_all e.0)
+  ends_too rest (Line n kind) e = (e.0, refused_too (fault_view kind) e.1, e.2)
+  ends_too rest Memory (inl e) = inl e
+  ends_too rest Memory (inr e) = inr (stops_too rest e)
+  ends_too rest Cut e = record { before = e.before; image = e.image; is = e.is; stops = stops_too e.before e.stops }
+  ends_too rest Write (inl e) = inl e
+  ends_too rest Write (inr e) = inr (record { line = e.line; place = taken_too e.line e.place e.answer.taken; segment = e.segment; text = e.text; new = e.new; answer = e.answer; went = e.went })
+  ends_too rest Read e = e
+  ends_too rest OutOfMemory e = e
+  ends_too rest (Unformatted byte) e = e
+  ends_too rest (Foreign at) e = e
 
 -- so many bytes have a line that is refused
 pub never_done : (c : Settings) (o : MeterRecord) (bytes : List ℕ) (trace : Trace) → 121000001 ≤ length bytes → Ran c o bytes trace Done → ⊥
-never_done c o bytes trace long ran =
-    let gone : drop (length (output_lines trace)) (lines_of bytes) ≡ [] = drop_of_length-le (lines_of bytes) (omega (arith, ran.ends.0)) in
-    let none : total (drop (length (output_lines trace)) (lines_of bytes)) ≡ 0 = ap total gone in
-    let m = moved c o bytes [] trace Done long ran in
-    omega (arith, m.long)
+never_done c o bytes trace long ran = not_all c o bytes [] (output_lines trace) ran.kept long ran.pairs ran.ends.0
 
-whole : (c : Settings) (o : MeterRecord) (bytes more : List ℕ) (trace : Trace) (ended : Ended) → 121000001 ≤ length bytes → Ran c o bytes trace ended → Ran c o (bytes ++ more) trace ended
-whole c o bytes more trace ended long ran = record {
-  kept = ran.kept;
-  pairs = m.pairs;
-  fits = ran.fits;
-  ends = ends_too ended ran ran.ends;
-  puts = ran.puts;
-  moments = moments_of c o (bytes ++ more) trace ran.kept m.pairs ran.fits;
-} where
-  m : Transferred c o 0 [] (lines_of bytes) (lines_of (bytes ++ more)) (output_lines trace) ran.kept
-  m = moved c o bytes more trace ended long ran
+pub ran_too : (c : Settings) (o : MeterRecord) (bytes more : List ℕ) (trace : Trace) (ended : Ended) → 121000001 ≤ length bytes → Ran c o bytes trace ended → Ran c o (bytes ++ more) trace ended
+ran_too c o bytes more trace ended long ran =
+    let pairs = pairs_too c o bytes more (output_lines trace) ran.kept long ran.pairs in
+    record {
+      kept = ran.kept;
+      pairs = pairs;
+      fits = ran.fits;
+      ends = ends_too c o bytes more (output_lines trace) ran.kept long ran.pairs (open_segment trace) ended ran.ends;
+      moments = moments_of c o (bytes ++ more) trace ran.kept pairs ran.fits;
+    }
 
-  long_at : 121 * (1000000 - length (output_lines trace)) < total (drop (length (output_lines trace)) (lines_of bytes))
-  long_at = subst (λ k. 121 * (1000000 - k) < total (drop (length (output_lines trace)) (lines_of bytes))) (zero-add _) m.long
+-- what holds of the bytes that were read, up to the end of the script or the limit, holds of the script
+pub of_script : (P : List ℕ → Type 0) (script bytes left : List ℕ) → script ≡ bytes ++ left → (length bytes < 121000001 → left ≡ []) → ((more : List ℕ) → 121000001 ≤ length bytes → P bytes → P (bytes ++ more)) → P bytes → P script
+of_script P script bytes left cut all too here = subst P (sym cut) (by_length (cases_lt (length bytes) 121000001)) where
+  by_length : (length bytes < 121000001) ⊎ (121000001 ≤ length bytes) → P (bytes ++ left)
+  by_length (inl short) = subst (λ r. P (bytes ++ r)) (sym (all short)) (subst P (sym (append-nil bytes)) here)
+  by_length (inr long) = too left long here
 
-  ends_too : (end : Ended) → Ran c o bytes trace end → EndsAt c o (lines_of bytes) (output_lines trace) (open_segment trace) ran.kept end → EndsAt c o (lines_of (bytes ++ more)) (output_lines trace) (open_segment trace) ran.kept end
-  ends_too Done here e = absurd (never_done c o bytes trace long here)
-  ends_too (Line n kind) here e =
-      let found = at_place (record_after c o ran.kept) (length (output_lines trace)) (lines_of bytes) (lines_of (bytes ++ more)) e.1.line (fault_view kind) m.continue long_at e.1.place e.1.why in
-      (e.0, record { line = found.0; place = found.1; why = found.2 }, e.2)
-  ends_too Read here e = e
-  ends_too Write here (inl e) = inl e
-  ends_too Write here (inr e) =
-      let fits : IsTakable (length (output_lines trace)) e.2.line = takable (record_after c o ran.kept) (length (output_lines trace)) e.2.line e.2.answer.taken in
-      inr (
-        e.0,
-        e.1,
-        record {
-          line = e.2.line;
-          place = taken_place (length (output_lines trace)) (lines_of bytes) (lines_of (bytes ++ more)) e.2.line m.continue long_at e.2.place fits;
-          text = e.2.text;
-          new = e.2.new;
-          answer = e.2.answer;
-          count = e.2.count;
-          front = e.2.front;
-        },
-      )
-  ends_too OutOfMemory here e = e
-
--- the bytes that were read, up to the end of the script or the limit
-pub of_script : (script bytes left : List ℕ) (trace : Trace) (ended : Ended) → script ≡ bytes ++ left → (length bytes < 121000001 → left ≡ []) → Ran dry_settings dry_opening bytes trace ended → Ran dry_settings dry_opening script trace ended
-of_script script bytes left trace ended cut all ran = subst (λ s. Ran dry_settings dry_opening s trace ended) (sym cut) (by_length (cases_lt (length bytes) 121000001)) where
-  by_length : (length bytes < 121000001) ⊎ (121000001 ≤ length bytes) → Ran dry_settings dry_opening (bytes ++ left) trace ended
-  by_length (inl short) = subst (λ r. Ran dry_settings dry_opening (bytes ++ r) trace ended) (sym (all short)) (subst (λ s. Ran dry_settings dry_opening s trace ended) (sym (append-nil bytes)) ran)
-  by_length (inr long) = whole dry_settings dry_opening bytes left trace ended long ran
-
-pub read_to_end : (bytes left : List ℕ) (trace : Trace) (ended : Ended) → (length bytes < 121000001 → left ≡ []) → ended ≡ Done → Ran dry_settings dry_opening bytes trace ended → left ≡ []
-read_to_end bytes left trace ended all is ran = by_length (cases_lt (length bytes) 121000001) where
+pub read_to_end : (c : Settings) (o : MeterRecord) (bytes left : List ℕ) (trace : Trace) (ended : Ended) → (length bytes < 121000001 → left ≡ []) → ended ≡ Done → Ran c o bytes trace ended → left ≡ []
+read_to_end c o bytes left trace ended all is ran = by_length (cases_lt (length bytes) 121000001) where
   by_length : (length bytes < 121000001) ⊎ (121000001 ≤ length bytes) → left ≡ []
   by_length (inl short) = all short
-  by_length (inr long) = absurd (never_done dry_settings dry_opening bytes trace long (subst (Ran dry_settings dry_opening bytes trace) is ran))
+  by_length (inr long) = absurd (never_done c o bytes trace long (subst (Ran c o bytes trace) is ran))

@@ -1,2 +1,5 @@
 pub mod Takes
+pub mod Ran
 pub mod Dry
+pub mod Steps
+pub mod Run

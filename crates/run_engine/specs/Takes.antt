@@ -8,8 +8,6 @@ use Rattle.script_model.specs.Grammar.{Metering, line_of}
 use Rattle.journal_model.specs.Faults.{fault_of}
 use Rattle.event_script.specs.declared.LineFault.{LineFault}
 use Rattle.event_script.specs.Views.{fault_view}
-use Rattle.run_engine.specs.declared.Ended.{Ended}
-use Rattle.run_engine.specs.declared.Ended.TheVariants.{Done, Line, Read, Write, OutOfMemory}
 
 -- the line after n lines is an event, which the record takes
 pub record TakesLine (c : Settings) (n : ℕ) (old : MeterRecord) (line : List ℕ) (new : MeterRecord) : Type 0 where
@@ -22,11 +20,3 @@ pub record TakesLine (c : Settings) (n : ℕ) (old : MeterRecord) (line : List �
 abbrev pub Takes : {T : Type 0} → Settings → ℕ → MeterRecord → List ℕ → MeterRecord → Result T LineFault → Type 0
 Takes c n old line new (Ok t) = TakesLine c n old line new
 Takes c n old line new (Err kind) = fault_of old n line ≡ Some (fault_view kind)
-
--- an answer to lines that were read
-abbrev pub AnswersLines : Ended → Type 0
-AnswersLines Done = Unit {0}
-AnswersLines (Line n kind) = Unit {0}
-AnswersLines Write = Unit {0}
-AnswersLines Read = ⊥
-AnswersLines OutOfMemory = ⊥

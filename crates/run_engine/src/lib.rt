@@ -1,12 +1,14 @@
 //! The commands that take a script.
 #![tactic(auto)]
 
-mod answer;
-mod commands;
+mod lines;
+mod on_memory;
 mod script;
 mod text;
+mod without_memory;
 
-pub use commands::dry;
+pub use on_memory::run;
+pub use without_memory::dry;
 use event_script::LineFault;
 
 /// How a command that takes a script ended.
@@ -16,10 +18,18 @@ pub enum Ended {
     Done,
     /// Line `n` of the script, counted from 1, is the first that is refused.
     Line { n: u32, kind: LineFault },
+    /// The memory failed, and the board's count of memory faults rose.
+    Memory,
     /// The source failed, and its count of faults rose.
     Read,
     /// The output failed, and the board's count of output faults rose.
     Write,
-    /// Memory ran out.
+    /// The first byte of the memory is not the mark A5, but this one.
+    Unformatted { byte: u8 },
+    /// The field at this offset in the memory breaks its rule.
+    Foreign { at: u32 },
+    /// Memory for the program ran out.
     OutOfMemory,
+    /// The power failed, and the board's count of cuts rose.
+    Cut,
 }
