@@ -1,3 +1,5 @@
 pub mod Parts
 pub mod Offsets
 pub mod FormatMoments
+pub mod CommitMoments
+pub mod MemoryAlone
