@@ -3,3 +3,4 @@ pub mod Offsets
 pub mod FormatMoments
 pub mod CommitMoments
 pub mod MemoryAlone
+pub mod Standing
