@@ -1,5 +1,5 @@
 -- Stretches of a trace in which the memory alone worked.
-use Rattle.std.proofs.Common.{◌≡◌, inl, inr, ℕ, ◌+◌, ◌≤◌, Bool, true, false, cond, List, [], ◌∷◌, ◌++◌, refl, sym, ap, ◌∙◌, subst, arith, append_assoc}
+use Rattle.std.proofs.Common.{◌≡◌, inl, inr, ℕ, ◌+◌, ◌≤◌, Bool, true, false, cond, List, [], ◌∷◌, ◌++◌, refl, sym, ap, ◌∙◌, subst, arith, append_assoc, Result, Ok, Err}
 use Rattle.std.specs.Prelude.{All, count_by}
 use Rattle.std.proofs.lemmas.List.{append-nil}
 use Rattle.std.proofs.lemmas.List.Elements.{All-nil, All-push}
@@ -8,7 +8,9 @@ use Rattle.trace_model.specs.Trace.{Entry, Store, Sync, Missed, Put, Arm, Cut, T
 use Rattle.trace_model.specs.Output.{OutputLine, bytes_put, is_output_line, open_segment, output_lines}
 use Rattle.trace_model.specs.Moments.{Grew, same, more}
 use Rattle.trace_model.proofs.Moments.{Grew-weaker}
-use Rattle.register_store.specs.Works.{count_of, is_other}
+use Rattle.register_store.specs.declared.store_fault.StoreFault.{StoreFault}
+use Rattle.register_store.specs.declared.store_fault.StoreFault.TheVariants as faults
+use Rattle.register_store.specs.Works.{WorksBy, count_of, is_other}
 
 -- the trace goes on by these entries
 abbrev pub with_entries : Trace → List Entry → Trace
@@ -65,7 +67,7 @@ one_more_alone old t es e a is = record {
 -- ---- the law
 
 -- no count falls
-Grew-count : {P : Trace → Type 0} {old new : Trace} (kind : Entry → Bool) → Grew P old new → count_of kind old ≤ count_of kind new
+pub Grew-count : {P : Trace → Type 0} {old new : Trace} (kind : Entry → Bool) → Grew P old new → count_of kind old ≤ count_of kind new
 Grew-count kind same = omega arith
 Grew-count kind (more {t} {e} g here) = omega (arith, Grew-count kind g)
 
@@ -105,3 +107,12 @@ lines_stay {P} {old} {new} g others = Grew-weaker (λ s at. (at.0, at.1.alone.li
 pub front_counts : (old : Trace) (entries : List Entry) (t : Trace) (kind : Entry → Bool) → FrontAlone old entries t → count_of kind t ≤ count_of kind old + count_by kind entries
 front_counts old entries t kind f =
     omega (arith, f.alone.counts kind, ap (λ (l : List Entry). count_by kind l) f.is, sum_by-append (λ (x : Entry). cond (kind x) 1 0) f.front f.rest)
+
+-- so it is with each call that stores, whatever it answered
+pub works_alone : {T : Type 0} (n : ℕ) (result : Result T StoreFault) (old new : Trace) → WorksBy n result old new → count_of is_other new ≡ count_of is_other old
+works_alone n (Ok x) old new works = works.others
+works_alone n (Err faults.Memory) old new works = works.others
+works_alone n (Err faults.Cut) old new works = works.others
+works_alone n (Err faults.Formatted) old new works = ap (count_of is_other) works
+works_alone n (Err (faults.Unformatted byte)) old new works = absurd works
+works_alone n (Err (faults.Foreign at)) old new works = absurd works

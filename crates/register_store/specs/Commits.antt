@@ -33,6 +33,11 @@ HoldsEither c side old new image = StandsFor (Holds c old side) image ⊎ Stands
 abbrev pub SlotHolds : Side → MeterRecord → List ℕ → Type 0
 SlotHolds side r memory = record_in (part (slot_at side) 1280 memory) ≡ Ok r
 
+-- the configuration with the old record on this side, and the new one in the other slot
+pub record HoldsBoth (c : Configuration) (side : Side) (old new : MeterRecord) (memory : List ℕ) : Type 0 where
+  pub in_force : StandsFor (Holds c old side) memory
+  pub filled : SlotHolds (other side) new memory
+
 -- the last entry is a cut by the memory's call, and its image is what is read now and has Q
 pub record EndsCut (Q : List ℕ → Type 0) (t : Trace) (reads : List ℕ) : Type 0 where
   pub before : Trace

@@ -32,7 +32,7 @@ returns-clause-outside g c = λ tells.
     (c.slot_place.ensures.place ∙ ap slot_at c.other_side.ensures) (search rules) (g.B.Board.reads c.store_settled.new.board))
     (c.store_settled.ensures.ok tells)
 
-pub returns-clause-left : goal.returns-clause-left
-returns-clause-left g c = λ tells cut.
+pub returns-clause-at_cut : goal.returns-clause-at_cut
+returns-clause-at_cut g c = λ tells cut.
     fill_left (side_view c.args.side) (g.B.Board.reads c.args.board.now) (c.requires.stands tells) (g.met.B.Board.possible c.args.board.now tells).size c.slot_place.result c.encode_record.result
-    (c.slot_place.ensures.place ∙ ap slot_at c.other_side.ensures) (search rules) (c.store_settled.ensures.left tells cut)
+    (c.slot_place.ensures.place ∙ ap slot_at c.other_side.ensures) (search rules) (c.store_settled.ensures.at_cut tells cut)
