@@ -1,3 +1,6 @@
 pub mod Parts
 pub mod Offsets
 pub mod FormatMoments
+pub mod CommitMoments
+pub mod MemoryAlone
+pub mod Standing

@@ -1,6 +1,7 @@
 //! The memory of a heat meter: a header, a gate, and two slots for its record, of which the gate chooses one.
 #![tactic(auto)]
 
+mod committing;
 mod formatting;
 mod layout;
 mod recovery;
@@ -10,6 +11,7 @@ mod store_fault;
 #[cfg(test)]
 mod tests;
 
+pub use committing::{commit, fill_slot, turn_gate};
 pub use formatting::format;
 pub use recovery::recover;
 pub use side::Side;

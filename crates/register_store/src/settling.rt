@@ -5,6 +5,7 @@ ghost use Rattle.trace_model.specs.Images.{NothingPending, SameOutside, replaced
 ghost use Rattle.trace_model.specs.Moments.{Grew, Leaves};
 ghost use Rattle.meter_board.specs.Causes.{Rose};
 ghost use Rattle.register_store.specs.declared.store_fault.StoreFault.TheVariants.{Memory, Cut};
+ghost use Rattle.register_store.specs.Commits.{EndsCut};
 ghost use Rattle.register_store.specs.Works.{WorksBy, IsMemoryOrCut};
 
 use crate::StoreFault;
@@ -20,6 +21,7 @@ pub(crate) fn store_settled<B: Board>(
     requires settled { B.tells → NothingPending (B.trace board.old) }
     ensures moments { B.tells → Grew (Leaves (SameOutside at (length bytes.now) (B.reads board.old))) (B.trace board.old) (B.trace board.new) }
     ensures ok { B.tells → OnOk result (B.reads board.new ≡ replaced (B.reads board.old) at bytes.now) }
+    ensures at_cut { B.tells → IsErrOf result Cut → EndsCut (SameOutside at (length bytes.now) (B.reads board.old)) (B.trace board.new) (B.reads board.new) }
     ensures settled { B.tells → OnOk result (NothingPending (B.trace board.new)) }
     ensures works { B.tells → WorksBy 1 result (B.trace board.old) (B.trace board.new) }
     ensures kind { IfErr result IsMemoryOrCut }

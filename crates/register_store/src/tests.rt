@@ -1,7 +1,8 @@
 use crate::*;
 use billing_memory::{Day, MeterRecord};
-use meter_board::{Board, SimBoard};
+use meter_board::{Board, CallKind, SimBoard};
 use meter_config::Config;
+use std::alloc::Global;
 use std::test::Fail;
 
 // The header of the standard configuration up to its last byte that isn't 0.
@@ -47,5 +48,71 @@ fn memory_with_foreign_fields(rt: HostRuntime) -> Result<(), Fail> {
     );
     assert_eq!(rt; board.store(11, &[2]), Ok(()));
     assert_eq!(rt; recover(&mut board), Err(StoreFault::Foreign { at: 11 }));
+    Ok(())
+}
+
+fn counted(events: u32) -> MeterRecord {
+    let mut m = opening();
+    m.seq = u64::from(events);
+    m
+}
+
+#[test]
+fn slots_take_turns(rt: HostRuntime) -> Result<(), Fail> {
+    let c = Config::standard();
+    let mut board = SimBoard::new(rt.alloc(), &[0; 16384], 12, 6_000)?;
+    format(&mut board, &c, &opening())?;
+    let first = commit(&mut board, Side::A, &counted(1))?;
+    assert_eq!(rt; recover(&mut board), Ok((c, counted(1), first)));
+    assert_eq!(rt; first, Side::B);
+    assert_eq!(rt; (board.image()[256], board.image()[2_048]), (1, 1));
+    let second = commit(&mut board, first, &counted(2))?;
+    assert_eq!(rt; recover(&mut board), Ok((c, counted(2), second)));
+    assert_eq!(rt; second, Side::A);
+    assert_eq!(rt; (board.image()[256], board.image()[512]), (0, 2));
+    Ok(())
+}
+
+#[test]
+fn gate_turns_to_a_slot_that_was_filled(rt: HostRuntime) -> Result<(), Fail> {
+    let c = Config::standard();
+    let mut board = SimBoard::new(rt.alloc(), &[0; 16384], 12, 6_000)?;
+    format(&mut board, &c, &opening())?;
+    fill_slot(&mut board, Side::A, &counted(1))?;
+    assert_eq!(rt; recover(&mut board), Ok((c, opening(), Side::A)));
+    assert_eq!(rt; turn_gate(&mut board, Side::A), Ok(Side::B));
+    assert_eq!(rt; recover(&mut board), Ok((c, counted(1), Side::B)));
+    Ok(())
+}
+
+// What a commit answers during which this call of the memory fails, and what is recovered then.
+fn failing(
+    alloc: Global,
+    kind: CallKind,
+    number: u32,
+) -> Result<(Result<Side, StoreFault>, MeterRecord, Side), Fail> {
+    let mut board = SimBoard::new(alloc, &[0; 16384], 12, 6_000)?;
+    board.fail_on(kind, number);
+    format(&mut board, &Config::standard(), &opening())?;
+    let answer = commit(&mut board, Side::A, &counted(1));
+    let (_, held, side) = recover(&mut board)?;
+    Ok((answer, held, side))
+}
+
+#[test]
+fn commit_fails_with_the_memory(rt: HostRuntime) -> Result<(), Fail> {
+    let refused = Err(StoreFault::Memory);
+    assert_eq!(rt;
+        failing(rt.alloc(), CallKind::Sync, 3)?,
+        (refused, opening(), Side::A)
+    );
+    assert_eq!(rt;
+        failing(rt.alloc(), CallKind::Store, 4)?,
+        (refused, opening(), Side::A)
+    );
+    assert_eq!(rt;
+        failing(rt.alloc(), CallKind::Sync, 4)?,
+        (refused, counted(1), Side::B)
+    );
     Ok(())
 }
