@@ -4,10 +4,10 @@ use Rattle.std.specs.Prelude.{if◌then◌else◌, slice_index, slice_get}
 use Rattle.std.specs.List.{range_with_len}
 use Rattle.std.proofs.lemmas.Bool.{leb-true}
 use Rattle.std.proofs.lemmas.List.FromFn.{length-map-range_with_len}
-use Rattle.config_model.specs.Configuration.{Configuration}
+use Rattle.config_model.specs.Configuration.{Configuration, is_sensor}
 use Rattle.metering_model.specs.Records.{MeterRecord}
 use Rattle.memory_model.specs.Fields.{Field, first_broken, part, unless_broken, value}
-use Rattle.memory_model.specs.Header.{header_in}
+use Rattle.memory_model.specs.Header.{configuration_of, header_fields, header_in, sensor_field}
 use Rattle.memory_model.specs.Slot.{month_count_field, month_entry, months_of, record_fields, record_in, record_of, seq_field}
 use Rattle.memory_model.specs.Stored.{Side, Stored, Unformatted, Foreign, Holds, chosen, mark, slot_at, stored, stored_from, with_header, with_record}
 
@@ -61,3 +61,28 @@ pub held_record : (memory : List ℕ) (c : Configuration) (r : MeterRecord) (sid
 held_record memory c r side is =
     in_slot (part (slot_at (chosen memory)) 1280 memory) r
     (behind_mark (slice_index memory 0 == mark) (slice_index memory 0) (header_in (part 0 256 memory)) c (chosen memory) side (record_in (part (slot_at (chosen memory)) 1280 memory)) r is)
+
+-- ---- and its sensors are of a kind that there is
+
+in_header : (bytes : List ℕ) (c : Configuration) → header_in bytes ≡ Ok c → is_sensor c.sensor_ohm ≡ true
+unfolding header_in header_fields configuration_of
+in_header bytes c is =
+    let whole = whole_value (first_broken header_fields bytes) (configuration_of bytes) c is in
+    subst (λ (k : Configuration). is_sensor k.sensor_ohm ≡ true) whole.1 (keeps_at header_fields 9 sensor_field bytes refl whole.0)
+
+config_on_side : (c c' : Configuration) (side side' : Side) (slot : Result MeterRecord ℕ) (r : MeterRecord) → with_record c side slot ≡ Holds c' r side' → c ≡ c'
+config_on_side c c' side side' (Ok s) r is = cc
+config_on_side c c' side side' (Err at) r is = absurd cc
+
+config_of : (header : Result Configuration ℕ) (c : Configuration) (side side' : Side) (slot : Result MeterRecord ℕ) (r : MeterRecord) → with_header header side slot ≡ Holds c r side' → header ≡ Ok c
+config_of (Ok h) c side side' slot r is = ap Ok (config_on_side h c side side' slot r is)
+config_of (Err at) c side side' slot r is = absurd cc
+
+config_marked : (marked : Bool) (first : ℕ) (header : Result Configuration ℕ) (c : Configuration) (side side' : Side) (slot : Result MeterRecord ℕ) (r : MeterRecord) → (if marked then with_header header side slot else Unformatted first) ≡ Holds c r side' → header ≡ Ok c
+config_marked true first header c side side' slot r is = config_of header c side side' slot r is
+config_marked false first header c side side' slot r is = absurd cc
+
+pub held_sensor : (memory : List ℕ) (c : Configuration) (r : MeterRecord) (side : Side) → stored memory ≡ Holds c r side → is_sensor c.sensor_ohm ≡ true
+held_sensor memory c r side is =
+    in_header (part 0 256 memory) c
+    (config_marked (slice_index memory 0 == mark) (slice_index memory 0) (header_in (part 0 256 memory)) c (chosen memory) side (record_in (part (slot_at (chosen memory)) 1280 memory)) r is)

@@ -44,7 +44,7 @@ with_entries-push : (t : Trace) (es : List Entry) (e : Entry) → with_entries t
 with_entries-push t [] e = refl
 with_entries-push t (d ∷ ds) e = with_entries-push (t ▷ d) ds e
 
-no_line : (e : Entry) → is_other e ≡ false → is_output_line e ≡ false
+pub no_line : (e : Entry) → is_other e ≡ false → is_output_line e ≡ false
 no_line (Store at bytes) is = refl
 no_line Sync is = refl
 no_line Missed is = refl

@@ -6,3 +6,4 @@ pub mod Nothing
 pub mod OnMemory
 pub mod RunsOnMemory
 pub mod WholeOnMemory
+pub mod Bounded

@@ -1,12 +1,14 @@
 //! The commands that take a script.
 #![tactic(auto)]
 
+mod laws;
 mod lines;
 mod on_memory;
 mod script;
 mod text;
 mod without_memory;
 
+pub use laws::{held_energy_is_bounded, histories_join};
 pub use on_memory::run;
 pub use without_memory::dry;
 use event_script::LineFault;

@@ -1,0 +1,27 @@
+//! What a memory that is right at a moment holds, and how runs join. Laws alone, which compute nothing.
+
+ghost use Rattle.std.specs.Prelude.{ℕ, List, ◌++◌};
+ghost use Rattle.metering_model.specs.Events.{Kept};
+ghost use Rattle.metering_model.specs.Settings.{Settings};
+ghost use Rattle.metering_model.specs.Records.{MeterRecord, StandsFor};
+ghost use Rattle.metering_model.specs.Integral.{AllFit, AllFitWithMargin};
+ghost use Rattle.config_model.specs.Configuration.{Configuration};
+ghost use Rattle.trace_model.specs.Trace.{Trace};
+ghost use Rattle.recovery_model.specs.Bounded.{HoldsBounded};
+ghost use Rattle.recovery_model.specs.Right.{IsRight};
+
+/// A law: where the memory is right, the energy that its record has gained since the opening record differs from the
+/// exact integral, whatever the temperatures in the cells, by at most the bound that it has gained, at most
+/// 2,000 mJ a counted litre, and by at most 600 mJ a counted litre.
+pub fn held_energy_is_bounded()
+    ensures { (c : Configuration) (o : MeterRecord) (lines : List (List ℕ)) (moment : Trace) (image : List ℕ) → IsRight c o lines moment image → HoldsBounded c o image }
+{}
+
+/// A law: where a record stands for an opening record and some events, and another stands for that record and further
+/// events, it stands for the opening record and all of them; and where both fit, so do all. So a memory that was
+/// formatted and has seen several runs stands for its whole history.
+pub fn histories_join()
+    ensures stands { (c : Settings) (o m r : MeterRecord) (hs ls : List Kept) → StandsFor c o hs m → StandsFor c m ls r → StandsFor c o (hs ++ ls) r }
+    ensures fit { (c : Settings) (o m : MeterRecord) (hs ls : List Kept) → StandsFor c o hs m → AllFit c o hs → AllFit c m ls → AllFit c o (hs ++ ls) }
+    ensures margin { (c : Settings) (o m : MeterRecord) (hs ls : List Kept) → StandsFor c o hs m → AllFitWithMargin c o hs → AllFitWithMargin c m ls → AllFitWithMargin c o (hs ++ ls) }
+{}
