@@ -1,2 +1,6 @@
 pub mod Decimals
+pub mod Inits
+pub mod Keys
+pub mod Lines
+pub mod Shows
 pub mod Waters

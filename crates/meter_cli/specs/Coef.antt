@@ -8,7 +8,7 @@ use Rattle.heat_model.specs.Heat.{LiesBetween, heat_coefficient}
 use Rattle.sensor_pair.specs.Place.{place_view}
 use Rattle.sensor_pair.specs.declared.place.Place.{Place}
 use Rattle.trace_model.specs.Trace.{Trace}
-use Rattle.meter_cli.specs.Temp.{PutsLine}
+use Rattle.meter_cli.specs.Puts.{PutsLine}
 use Rattle.meter_cli.specs.declared.status.Status.{Status}
 
 -- The ends of the heat coefficient in 10^-6 kJ/(m³ K), at p kPa and tf and tr microdegrees Celsius in flow and return.

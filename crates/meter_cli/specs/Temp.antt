@@ -1,14 +1,13 @@
--- The output of `temp`, and of each command that puts one line.
+-- The output of `temp`.
 use Rattle.std.specs.Prelude.{◌≡◌, ◌⊎◌, ℕ, List, ◌++◌, codes}
 use Rattle.std.specs.Fmt.{decimal}
 use Rattle.platinum_model.specs.Element.{Element, nominal}
 use Rattle.platinum_model.specs.Sample.{IsInRange, IsWholeTemp}
 use Rattle.pt_curve.specs.Curve.{nominal_r0}
 use Rattle.pt_curve.specs.declared.sensor.Sensor.{Sensor}
-use Rattle.trace_model.specs.Trace.{Trace, Put, ◌▷◌}
-use Rattle.meter_board.specs.Puts.{PutsFront}
+use Rattle.trace_model.specs.Trace.{Trace}
+use Rattle.meter_cli.specs.Puts.{PutsLine}
 use Rattle.meter_cli.specs.declared.status.Status.{Status}
-use Rattle.meter_cli.specs.declared.status.Status.TheVariants.{Done, Write}
 
 -- the element of a sensor with the nominal constants
 abbrev pub element_of : Sensor → Element
@@ -17,10 +16,6 @@ element_of sensor = nominal (nominal_r0 sensor)
 -- the whole temperature of a sample in microdegrees, or `out` where it is out of range
 abbrev pub IsTempText : Element → ℕ → List ℕ → Type 0
 IsTempText e r text = (IsInRange e r × (t : ℕ) × IsWholeTemp e r t × (text ≡ decimal t ++ codes "\n")) ⊎ ((IsInRange e r → ⊥) × (text ≡ codes "out\n"))
-
--- the line went out whole at Done, and a front of it or nothing at Write; there is no other status
-abbrev pub PutsLine : List ℕ → Trace → Trace → Status → Type 0
-PutsLine text old new status = ((status ≡ Done) × (new ≡ old ▷ Put text)) ⊎ ((status ≡ Write) × PutsFront old text new)
 
 -- what `temp` leaves
 pub record TempLeaves (sensor : Sensor) (r : ℕ) (old new : Trace) (status : Status) : Type 0 where

@@ -6,7 +6,7 @@ use Rattle.platinum_model.specs.Element.{microdegrees}
 use Rattle.water_model.specs.Decimal.{decimal, minus}
 use Rattle.water_model.specs.Water.{volume, enthalpy}
 use Rattle.trace_model.specs.Trace.{Trace}
-use Rattle.meter_cli.specs.Temp.{PutsLine}
+use Rattle.meter_cli.specs.Puts.{PutsLine}
 use Rattle.meter_cli.specs.declared.status.Status.{Status}
 
 -- lo and hi, in units of 10^-e, enclose x and are at most 1,002 apart

@@ -11,8 +11,14 @@ use thiserror::Error;
 /// A command.
 #[derive(Clone, Copy, Debug, PartialEq, Eq)]
 pub enum Job {
+    /// `init`: let an unformatted memory hold the configuration that the source tells.
+    Init,
+    /// `run`: meter the events of a script over the memory.
+    Run,
     /// `dry`: meter the events of a script without a memory.
     Dry,
+    /// `show`: put what the memory holds.
+    Show,
     /// `temp R0 R`: the whole temperature that a sample of `r` microohms of this sensor stands for.
     Temp {
         sensor: Sensor,
@@ -66,8 +72,14 @@ pub fn command(words: &[&str]) -> Result<Job, Usage>
     let Some((name, rest)) = first_of(words) else {
         return Err(Usage { word: 0 });
     };
-    if name.as_bytes() == b"dry".as_slice() {
-        dry(rest)
+    if name.as_bytes() == b"init".as_slice() {
+        alone(rest, Job::Init)
+    } else if name.as_bytes() == b"run".as_slice() {
+        alone(rest, Job::Run)
+    } else if name.as_bytes() == b"dry".as_slice() {
+        alone(rest, Job::Dry)
+    } else if name.as_bytes() == b"show".as_slice() {
+        alone(rest, Job::Show)
     } else if name.as_bytes() == b"temp".as_slice() {
         temp(rest)
     } else if name.as_bytes() == b"water".as_slice() {
@@ -79,14 +91,15 @@ pub fn command(words: &[&str]) -> Result<Job, Usage>
     }
 }
 
-// The words after `dry`.
-fn dry(words: &[&str]) -> Result<Job, Usage>
-    ensures says { Says result (end_at 1 Job.Dry (texts words.now)) }
+// The words after a name that stands alone.
+fn alone(words: &[&str], job: Job) -> Result<Job, Usage>
+    requires { IsInRange job }
+    ensures says { Says result (end_at 1 job (texts words.now)) }
     ensures range { IfOk result IsInRange }
 {
     match first_of(words) {
         Some(_) => Err(Usage { word: 1 }),
-        None => Ok(Job::Dry),
+        None => Ok(job),
     }
 }
 

@@ -1,9 +1,12 @@
 //! The top call of the heat meter: what the program does.
 #![tactic(auto)]
 
+mod init;
 mod job;
-mod one_line;
 mod physics;
+mod puts;
+mod show;
+mod show_lines;
 mod status;
 #[cfg(test)]
 mod tests;

@@ -8,7 +8,7 @@ ghost use Rattle.meter_cli.specs.Coef.{CoefLeaves, IsCoefText};
 ghost use Rattle.meter_cli.specs.Temp.{IsTempText, TempLeaves, element_of};
 ghost use Rattle.meter_cli.specs.Water.{IsWaterText, WaterLeaves};
 
-use crate::one_line::put_line;
+use crate::puts::put_line;
 use crate::status::Status;
 use arrayvec::ArrayString;
 use heat_coeff::{Factor, coeff};

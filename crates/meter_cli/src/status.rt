@@ -1,13 +1,17 @@
 //! How a command ended, as a status with a number and a text.
-ghost use Rattle.std.specs.Prelude.{◌≡◌, ◌+◌, ◌≤◌, ◌++◌, ℕ, List, length, codes};
+ghost use Rattle.std.specs.Prelude.{◌≡◌, ◌+◌, ◌≤◌, ◌<◌, ◌++◌, ℕ, List, length, codes};
+ghost use Rattle.std.specs.Char.{digit_char};
 ghost use Rattle.std.specs.Fmt.{decimal};
 ghost use Rattle.calendar_model.specs.Texts.{IsDayText};
-ghost use Rattle.meter_cli.specs.Status.{IsFaultText, IsStatusText, code_of};
+ghost use Rattle.accept_model.specs.Keys.{name_of};
+ghost use Rattle.meter_cli.specs.Status.{IsFaultText, IsStatusText, code_of, config_text, hex_byte, memory_status, text_status};
 
 use arrayvec::ArrayString;
 use billing_memory::Day;
 use event_script::LineFault;
 use itoa::Buffer;
+use meter_config::{ConfigFault, key_name};
+use register_store::StoreFault;
 
 /// The room of a status line.
 pub const STATUS_ROOM: usize = 128;
@@ -19,14 +23,26 @@ pub enum Status {
     Done,
     /// The words are no command; `word` is the place, from 0, of the first wrong, missing or extra word.
     Usage { word: usize },
+    /// The text is not accepted as a configuration.
+    Config { fault: ConfigFault },
     /// Line `n` of the script, counted from 1, is the first that is refused.
     Line { n: u32, kind: LineFault },
+    /// The memory failed.
+    Memory,
     /// The input failed.
     Read,
     /// The output failed.
     Write,
-    /// Memory ran out.
+    /// The memory is not formatted: its first byte is this one and not the mark A5.
+    Unformatted { byte: u8 },
+    /// The field at this offset in the memory breaks its rule.
+    Foreign { at: u32 },
+    /// The memory is formatted already.
+    Formatted,
+    /// The program wants memory.
     OutOfMemory,
+    /// The power was cut while the memory was written.
+    Cut,
 }
 
 /// The exit status of the program.
@@ -36,10 +52,16 @@ pub fn status_code(s: &Status) -> u8
     match s {
         Status::Done => 0,
         Status::Usage { .. } => 2,
+        Status::Config { .. } => 3,
         Status::Line { .. } => 4,
+        Status::Memory => 5,
         Status::Read => 6,
         Status::Write => 7,
+        Status::Unformatted { .. } => 8,
+        Status::Foreign { .. } => 9,
+        Status::Formatted => 10,
         Status::OutOfMemory => 11,
+        Status::Cut => 12,
     }
 }
 
@@ -50,11 +72,83 @@ pub fn status_line(s: &Status) -> ArrayString<STATUS_ROOM>
     match s {
         Status::Done => ArrayString::new(),
         Status::Usage { word } => numbered("usage: word ", *word as u64),
+        Status::Config { fault } => config_line(*fault),
         Status::Line { n, kind } => fault_line(*n, kind),
+        Status::Memory => fixed("memory fault"),
         Status::Read => fixed("read fault"),
         Status::Write => fixed("write fault"),
+        Status::Unformatted { byte } => unformatted_line(*byte),
+        Status::Foreign { at } => numbered("foreign at ", u64::from(*at)),
+        Status::Formatted => fixed("already formatted"),
         Status::OutOfMemory => fixed("out of memory"),
+        Status::Cut => fixed("power cut"),
     }
+}
+
+/// The status of a text that gives no configuration.
+pub fn text_status(fault: ConfigFault) -> Status
+    ensures { result ≡ text_status fault }
+{
+    match fault {
+        ConfigFault::OutOfMemory => Status::OutOfMemory,
+        fault => Status::Config { fault },
+    }
+}
+
+/// The status of a memory that refuses.
+pub fn memory_status(fault: StoreFault) -> Status
+    ensures { result ≡ memory_status fault }
+{
+    match fault {
+        StoreFault::Unformatted { byte } => Status::Unformatted { byte },
+        StoreFault::Foreign { at } => Status::Foreign { at },
+        StoreFault::Formatted => Status::Formatted,
+        StoreFault::Memory => Status::Memory,
+        StoreFault::Cut => Status::Cut,
+    }
+}
+
+fn config_line(fault: ConfigFault) -> ArrayString<STATUS_ROOM>
+    ensures { result.bytes ≡ config_text fault }
+{
+    match fault {
+        ConfigFault::TooLong => fixed("config: too long"),
+        ConfigFault::Text => fixed("config: text"),
+        ConfigFault::NotObject => fixed("config: not an object"),
+        ConfigFault::Missing { key } => key_line("config: missing ", key),
+        ConfigFault::Wrong { key } => key_line("config: wrong ", key),
+        ConfigFault::Unknown { place } => numbered("config: unknown key ", u64::from(place)),
+        ConfigFault::OutOfMemory => fixed("out of memory"),
+    }
+}
+
+fn key_line(text: &str, key: u8) -> ArrayString<STATUS_ROOM>
+    requires { length text.now ≤ 40 }
+    ensures { result.bytes ≡ text.now ++ name_of key }
+{
+    let mut line = fixed(text);
+    line.push_str(key_name(key));
+    line
+}
+
+fn unformatted_line(byte: u8) -> ArrayString<STATUS_ROOM>
+    ensures { result.bytes ≡ codes "not formatted: " ++ hex_byte byte }
+{
+    let mut line = fixed("not formatted: ");
+    line.push(hex_digit(byte / 16));
+    line.push(hex_digit(byte % 16));
+    line
+}
+
+fn hex_digit(digit: u8) -> char
+    requires { digit < 16 }
+    ensures { result ≡ digit_char digit }
+{
+    char::from(if digit < 10 {
+        b'0' + digit
+    } else {
+        b'a' + (digit - 10)
+    })
 }
 
 fn fault_line(n: u32, kind: &LineFault) -> ArrayString<STATUS_ROOM>

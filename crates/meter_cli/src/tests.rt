@@ -4,15 +4,27 @@ ghost use Rattle.trace_model.specs.Trace.{IsFresh};
 ghost use Rattle.meter_board.specs.Sim.{sim_trace};
 
 use crate::*;
-use billing_memory::day_of;
+use billing_memory::{MeterRecord, day_of};
+use energy_register::{Register, Step};
 use event_script::LineFault;
 use meter_board::{CallKind, SimBoard, SliceSource};
+use meter_config::{Config, ConfigFault};
 use pt_curve::Sensor;
+use register_store::format;
 use sensor_pair::Place;
 use std::process::Abort;
 use std::test::Fail;
 
 const DRY: [&str; 1] = ["dry"];
+
+const INIT: [&str; 1] = ["init"];
+
+const SHOW: [&str; 1] = ["show"];
+
+const DEFAULT: &str =
+    "{\"serial\":\"12345678\",\"maker\":\"ABC\",\"version\":1,\"address\":1,\"place\":\"return\",\"pressure_kpa\":1600,\"sensor\":500,\"litres_per_pulse\":10,\"energy_decimals\":0,\"volume_decimals\":2,\"set_month\":1,\"opening_day\":\"2024-01-15\"}";
+
+const ZEROS: [u8; 16384] = [0; 16384];
 
 fn board(rt: &impl AllocGlobal) -> Result<SimBoard, Fail>
     ensures { IfOk result (λ b. IsFresh (sim_trace b)) }
@@ -224,6 +236,180 @@ fn faults_are_told(rt: HostRuntime) -> Result<(), Fail> {
     Ok(())
 }
 
+// A board over this image of its memory.
+fn board_over(rt: &impl AllocGlobal, image: &[u8; 16384]) -> Result<SimBoard, Fail>
+    ensures { IfOk result (λ b. IsFresh (sim_trace b)) }
+{
+    Ok(SimBoard::new(rt.alloc(), image, 100, 10000)?)
+}
+
+// What `init` answers to a text on a memory with this image, where it must put this output; and the image
+// that it leaves.
+fn init_answers(
+    rt: &(impl Abort + AllocGlobal),
+    text: &[u8],
+    image: &[u8; 16384],
+    output: &[u8],
+) -> Result<(Status, [u8; 16384]), Fail> {
+    let mut board = board_over(rt, image)?;
+    let mut source = SliceSource::new(text, 64);
+    let status = meter(rt.alloc(), &INIT, &mut source, &mut board);
+    assert!(rt; board.output().eq(output.iter().copied()));
+    let mut left = ZEROS;
+    for (to, from) in left.iter_mut().zip(board.image()) {
+        *to = *from;
+    }
+    Ok((status, left))
+}
+
+// What `show` answers on a memory with this image, where it must put this output.
+fn show_answers(
+    rt: &(impl Abort + AllocGlobal),
+    image: &[u8; 16384],
+    output: &str,
+) -> Result<Status, Fail> {
+    let mut board = board_over(rt, image)?;
+    let mut source = SliceSource::new(b"", 1);
+    let status = meter(rt.alloc(), &SHOW, &mut source, &mut board);
+    assert!(rt; board.output().eq(output.bytes()));
+    Ok(status)
+}
+
+// The memory of the default configuration, as `init` leaves it.
+fn formatted(rt: &(impl Abort + AllocGlobal)) -> Result<[u8; 16384], Fail> {
+    let (status, image) = init_answers(rt, DEFAULT.as_bytes(), &ZEROS, b"init 12345678\n")?;
+    assert_eq!(rt; status, Status::Done);
+    Ok(image)
+}
+
+#[test]
+fn a_memory_is_formatted_once(rt: HostRuntime) -> Result<(), Fail> {
+    let image = formatted(&rt)?;
+    assert_eq!(&rt;
+        image[..24],
+        [
+            0xa5, 0x01, 0x4e, 0x61, 0xbc, 0x00, 0x41, 0x42, 0x43, 0x01, 0x01, 0x01, 0x40, 0x06,
+            0xf4, 0x01, 0x0a, 0x00, 0x00, 0x02, 0x01, 0x00, 0x4c, 0x22
+        ][..]
+    );
+    assert_eq!(&rt; image[256], 0);
+    let (again, same) = init_answers(&rt, DEFAULT.as_bytes(), &image, b"")?;
+    assert_eq!(&rt; again, Status::Formatted);
+    assert!(&rt; same == image);
+    Ok(())
+}
+
+#[test]
+fn texts_are_refused(rt: HostRuntime) -> Result<(), Fail> {
+    let address = DEFAULT.replace(rt.alloc(), "\"address\":1", "\"address\":251")?;
+    let another = DEFAULT.replace(rt.alloc(), "}", ",\"zone\":1}")?;
+    for (text, fault) in [
+        (b"[]".as_slice(), ConfigFault::NotObject),
+        (b"{}".as_slice(), ConfigFault::Missing { key: 0 }),
+        (address.as_bytes(), ConfigFault::Wrong { key: 3 }),
+        (another.as_bytes(), ConfigFault::Unknown { place: 12 }),
+        ([b' '; 4097].as_slice(), ConfigFault::TooLong),
+        ([b' '; 4096].as_slice(), ConfigFault::Text),
+    ] {
+        let (status, image) = init_answers(&rt, text, &ZEROS, b"")?;
+        assert_eq!(&rt; status, Status::Config { fault });
+        assert!(&rt; image == ZEROS);
+    }
+    Ok(())
+}
+
+#[test]
+fn a_memory_is_shown(rt: HostRuntime) -> Result<(), Fail> {
+    let mut image = formatted(&rt)?;
+    assert_eq!(&rt;
+        show_answers(
+            &rt,
+            &image,
+            "serial 12345678\nday 2024-01-15\nseq 0\nvolume 000000.00 m3\nenergy 00000000 kWh\nregister 0 0 0\nfaulty 0\nset -\n"
+        )?,
+        Status::Done
+    );
+    assert_eq!(&rt;
+        show_answers(&rt, &ZEROS, "")?,
+        Status::Unformatted { byte: 0 }
+    );
+    image[520] = 0xff;
+    image[521] = 0xff;
+    assert_eq!(&rt; show_answers(&rt, &image, "")?, Status::Foreign { at: 520 });
+    image[11] = 2;
+    assert_eq!(&rt; show_answers(&rt, &image, "")?, Status::Foreign { at: 11 });
+    Ok(())
+}
+
+// 360 pulses of 10 litres, and an energy below -2 kWh, which a display of eight digits shows as 10^8 - 3.
+#[test]
+fn entries_are_shown(rt: HostRuntime) -> Result<(), Fail> {
+    let step = Step {
+        e_mj: -7_200_000_001,
+        b_mj: 54_321,
+        faulty: 2,
+    };
+    let mut m = MeterRecord::opening(day_of(2024, 11, 30).ok_or("no date")?);
+    m.register = Register::zero().after(step, 360)?;
+    m.faulty = 2;
+    m.seq = 7;
+    m.move_to(day_of(2025, 2, 3).ok_or("no date")?, 1)?;
+    let mut before = board_over(&rt, &ZEROS)?;
+    format(&mut before, &Config::standard(), &m)?;
+    let mut image = ZEROS;
+    for (to, from) in image.iter_mut().zip(before.image()) {
+        *to = *from;
+    }
+    assert_eq!(&rt;
+        show_answers(
+            &rt,
+            &image,
+            "serial 12345678\nday 2025-02-03\nseq 7\nvolume 000003.60 m3\nenergy 99999997 kWh\nregister 3600 -7200000001 54321\nfaulty 2\nset 2025-01-01 3600 -7200000001 54321\nmonth 2024-12-01 3600 -7200000001 54321\nmonth 2025-01-01 3600 -7200000001 54321\nmonth 2025-02-01 3600 -7200000001 54321\n"
+        )?,
+        Status::Done
+    );
+    Ok(())
+}
+
+#[test]
+fn faults_of_the_memory_are_told(rt: HostRuntime) -> Result<(), Fail> {
+    let image = formatted(&rt)?;
+    for (kind, status) in [
+        (CallKind::Load, Status::Memory),
+        (CallKind::Store, Status::Memory),
+        (CallKind::Sync, Status::Memory),
+        (CallKind::Put, Status::Write),
+    ] {
+        let mut failing = board_over(&rt, &ZEROS)?;
+        let mut source = SliceSource::new(DEFAULT.as_bytes(), 64);
+        assert!(&rt; failing.fail_on(kind, 1));
+        assert_eq!(&rt; meter(rt.alloc(), &INIT, &mut source, &mut failing), status);
+    }
+    let mut untouched = board_over(&rt, &ZEROS)?;
+    let mut source = SliceSource::new(DEFAULT.as_bytes(), 64);
+    assert!(&rt; source.fail_on(2));
+    assert_eq!(&rt;
+        meter(rt.alloc(), &INIT, &mut source, &mut untouched),
+        Status::Read
+    );
+    for (kind, number, status, output) in [
+        (CallKind::Load, 3, Status::Memory, b"".as_slice()),
+        (
+            CallKind::Put,
+            2,
+            Status::Write,
+            b"serial 12345678\nday 202".as_slice(),
+        ),
+    ] {
+        let mut failing = board_over(&rt, &image)?;
+        let mut source = SliceSource::new(b"", 1);
+        assert!(&rt; failing.fail_on(kind, number));
+        assert_eq!(&rt; meter(rt.alloc(), &SHOW, &mut source, &mut failing), status);
+        assert!(&rt; failing.output().eq(output.iter().copied()));
+    }
+    Ok(())
+}
+
 #[test]
 fn samples_have_their_temperatures(rt: HostRuntime) -> Result<(), Fail> {
     for (r0, r, output) in [
@@ -314,6 +500,8 @@ fn a_coefficient_is_as_published(rt: HostRuntime) -> Result<(), Fail> {
 #[test]
 fn words_are_tested(rt: HostRuntime) {
     assert_eq!(&rt; command(&["dry"]), Ok(Job::Dry));
+    assert_eq!(&rt; command(&["init"]), Ok(Job::Init));
+    assert_eq!(&rt; command(&["show"]), Ok(Job::Show));
     assert_eq!(&rt;
         command(&["temp", "500", "0"]),
         Ok(Job::Temp {
@@ -335,6 +523,8 @@ fn words_are_tested(rt: HostRuntime) {
         (["run"].as_slice(), 0),
         (["--help"].as_slice(), 0),
         (["dry", "now"].as_slice(), 1),
+        (["init", "now"].as_slice(), 1),
+        (["show", "now"].as_slice(), 1),
         (["temp", "200", "1"].as_slice(), 1),
         (["temp", "0100", "1"].as_slice(), 1),
         (["temp", "100"].as_slice(), 2),
@@ -397,12 +587,40 @@ fn statuses_have_texts(rt: HostRuntime) -> Result<(), Fail> {
             4,
             "line 1000001: too many",
         ),
+        (Status::Memory, 5, "memory fault"),
         (Status::Read, 6, "read fault"),
         (Status::Write, 7, "write fault"),
+        (Status::Unformatted { byte: 0x0e }, 8, "not formatted: 0e"),
+        (Status::Unformatted { byte: 0xf9 }, 8, "not formatted: f9"),
+        (Status::Foreign { at: 520 }, 9, "foreign at 520"),
+        (Status::Formatted, 10, "already formatted"),
         (Status::OutOfMemory, 11, "out of memory"),
+        (Status::Cut, 12, "power cut"),
     ] {
         assert_eq!(&rt; status_code(&status), code);
         assert_eq!(&rt; status_line(&status).as_str(), text);
     }
     Ok(())
+}
+
+#[test]
+fn refused_texts_have_texts(rt: HostRuntime) {
+    for (fault, text) in [
+        (ConfigFault::TooLong, "config: too long"),
+        (ConfigFault::Text, "config: text"),
+        (ConfigFault::NotObject, "config: not an object"),
+        (ConfigFault::Missing { key: 0 }, "config: missing serial"),
+        (
+            ConfigFault::Missing { key: 7 },
+            "config: missing litres_per_pulse",
+        ),
+        (ConfigFault::Wrong { key: 3 }, "config: wrong address"),
+        (ConfigFault::Wrong { key: 12 }, "config: wrong "),
+        (ConfigFault::Unknown { place: 12 }, "config: unknown key 12"),
+        (ConfigFault::OutOfMemory, "out of memory"),
+    ] {
+        let status = Status::Config { fault };
+        assert_eq!(&rt; status_code(&status), 3);
+        assert_eq!(&rt; status_line(&status).as_str(), text);
+    }
 }

@@ -1,25 +1,39 @@
 //! What the program does.
-ghost use Rattle.std.specs.Prelude.{◌≡◌, ◌⊎◌, ◌↔◌, ℕ, [], Ok, Err};
+ghost use Rattle.std.specs.Prelude.{◌≡◌, ◌≢◌, ◌⊎◌, ◌↔◌, ◌+◌, ◌≤◌, ℕ, [], length, slice_index, Ok, Err};
 ghost use Rattle.script_model.specs.Lines.{lines_of};
-ghost use Rattle.trace_model.specs.Trace.{IsFresh};
+ghost use Rattle.config_model.specs.Configuration.{Configuration};
+ghost use Rattle.metering_model.specs.Records.{MeterRecord};
+ghost use Rattle.accept_model.specs.Accepted.{accepted};
+ghost use Rattle.memory_model.specs.Stored.{Foreign, Holds, Side, Unformatted, mark, stored};
+ghost use Rattle.trace_model.specs.Trace.{IsFresh, Trace, base_of};
+ghost use Rattle.trace_model.specs.Moments.{IsPrefix, Leaves};
 ghost use Rattle.trace_model.specs.Output.{PutsAlone};
 ghost use Rattle.journal_model.specs.Pairing.{NoneRefused};
+ghost use Rattle.recovery_model.specs.Settings.{settings_for};
 ghost use Rattle.meter_board.specs.Causes.{Rose};
+ghost use Rattle.meter_config.specs.Faults.{Refuses};
+ghost use Rattle.meter_config.specs.declared.fault.ConfigFault.{ConfigFault};
+ghost use Rattle.register_store.specs.Formatted.{UnformattedOr};
 ghost use Rattle.run_engine.specs.Dry.{dry_opening, dry_settings};
 ghost use Rattle.meter_cli.specs.Coef.{CoefLeaves};
-ghost use Rattle.meter_cli.specs.Command.{PutsOneLine, command_of, texts};
-ghost use Rattle.meter_cli.specs.Status.{DryLeaves, status_of};
+ghost use Rattle.meter_cli.specs.Command.{PutsOneLine, ReadsNothing, command_of, texts};
+ghost use Rattle.meter_cli.specs.Ends.{EndsBy, EndsText};
+ghost use Rattle.meter_cli.specs.Init.{InitAnswers, InitLeaves, first_record};
+ghost use Rattle.meter_cli.specs.Show.{ShowLeaves};
+ghost use Rattle.meter_cli.specs.Status.{DryLeaves, RunEnds, status_of};
 ghost use Rattle.meter_cli.specs.Temp.{TempLeaves};
 ghost use Rattle.meter_cli.specs.Water.{WaterLeaves};
 ghost use Rattle.meter_cli.specs.declared.job.Job.{Job};
 ghost use Rattle.pt_curve.specs.declared.sensor.Sensor.{Sensor};
 ghost use Rattle.sensor_pair.specs.declared.place.Place.{Place};
 
+use crate::init::init;
 use crate::job::{Job, command};
 use crate::physics::{coef, temp, water};
+use crate::show::show;
 use crate::status::Status;
 use meter_board::{Board, Source};
-use run_engine::{Ended, dry};
+use run_engine::{Ended, dry, run};
 use std::alloc::Global;
 
 /// Does what the words after the program's name say, on this source and this board, and answers how it
@@ -36,27 +50,65 @@ pub fn meter<S: Source, B: Board>(
     ensures usage { (at : ℕ) → (result ≡ Status.Usage at) ↔ (command_of (texts words.now) ≡ Err at) }
     ensures untouched { (at : ℕ) → command_of (texts words.now) ≡ Err at → (source.new ≡ source.old) × (board.new ≡ board.old) }
 
+    // What `run` leaves, by what the memory stood for at its start, and when it must answer Done.
+    ensures run { command_of (texts words.now) ≡ Ok Job.Run → S.tells → B.tells → RunEnds (stored (base_of (B.trace board.old))) (S.left source.old) (B.trace board.new) result }
+    ensures run_complete { (c : Configuration) (o : MeterRecord) (side : Side) → command_of (texts words.now) ≡ Ok Job.Run → S.tells → B.tells → stored (base_of (B.trace board.old)) ≡ Holds c o side → NoneRefused (settings_for c) o (lines_of (S.left source.old)) → ¬ Rose (S.faults source.old) (S.faults source.new) → ¬ Rose (B.memory_faults board.old) (B.memory_faults board.new) → ¬ Rose (B.output_faults board.old) (B.output_faults board.new) → ¬ Rose (B.cuts board.old) (B.cuts board.new) → (result ≡ Status.Done) ⊎ (result ≡ Status.OutOfMemory) }
+    ensures run_end { command_of (texts words.now) ≡ Ok Job.Run → S.tells → B.tells → result ≡ Status.Done → S.left source.new ≡ [] }
+
     // What `dry` leaves, and when it must answer Done.
     ensures dry { command_of (texts words.now) ≡ Ok Job.Dry → S.tells → B.tells → DryLeaves (S.left source.old) (B.trace board.new) result }
     ensures complete { command_of (texts words.now) ≡ Ok Job.Dry → S.tells → B.tells → NoneRefused dry_settings dry_opening (lines_of (S.left source.old)) → ¬ Rose (S.faults source.old) (S.faults source.new) → ¬ Rose (B.output_faults board.old) (B.output_faults board.new) → (result ≡ Status.Done) ⊎ (result ≡ Status.OutOfMemory) }
     ensures end { command_of (texts words.now) ≡ Ok Job.Dry → S.tells → B.tells → result ≡ Status.Done → S.left source.new ≡ [] }
 
-    // The commands that put one line read nothing, and are done unless the output failed.
+    // What `init` answers to its text and leaves. A text that is refused, or was not read, touches no board.
+    ensures init_answers { command_of (texts words.now) ≡ Ok Job.Init → S.tells → InitAnswers (accepted (S.left source.old)) (S.left source.new) result }
+    ensures init_leaves { command_of (texts words.now) ≡ Ok Job.Init → B.tells → InitLeaves (λ (c : Configuration). S.tells → accepted (S.left source.old) ≡ Ok c) (B.reads board.old) (B.trace board.old) (B.trace board.new) result }
+    ensures init_untouched { command_of (texts words.now) ≡ Ok Job.Init → EndsText result → board.new ≡ board.old }
+    ensures init_reads { command_of (texts words.now) ≡ Ok Job.Init → S.tells → length (S.left source.old) ≤ length (S.left source.new) + 4097 }
+
+    // Config comes exactly where the text is refused, and Formatted exactly where it is accepted and the memory
+    // begins with the mark, but for a fault or want of memory that stands before it.
+    ensures init_refused { (fault : ConfigFault) → command_of (texts words.now) ≡ Ok Job.Init → S.tells → Refuses fault (accepted (S.left source.old)) → (result ≡ Status.Config fault) ⊎ (result ≡ Status.Read) ⊎ (result ≡ Status.OutOfMemory) }
+    ensures init_formatted { (c : Configuration) → command_of (texts words.now) ≡ Ok Job.Init → S.tells → B.tells → accepted (S.left source.old) ≡ Ok c → slice_index (B.reads board.old) 0 ≡ mark → (result ≡ Status.Formatted) ⊎ (result ≡ Status.Read) ⊎ (result ≡ Status.OutOfMemory) ⊎ (result ≡ Status.Memory) }
+    ensures init_marked { command_of (texts words.now) ≡ Ok Job.Init → B.tells → slice_index (base_of (B.trace board.old)) 0 ≡ mark → B.trace board.new ≡ B.trace board.old }
+
+    // At each moment of `init` the memory is unformatted, or holds the configuration with its first record.
+    ensures init_moments { (c : Configuration) (p : Trace) → command_of (texts words.now) ≡ Ok Job.Init → S.tells → B.tells → accepted (S.left source.old) ≡ Ok c → slice_index (base_of (B.trace board.old)) 0 ≢ mark → IsPrefix p (B.trace board.new) → Leaves (UnformattedOr c (first_record c)) p }
+    ensures init_complete { (c : Configuration) → command_of (texts words.now) ≡ Ok Job.Init → S.tells → B.tells → accepted (S.left source.old) ≡ Ok c → slice_index (base_of (B.trace board.old)) 0 ≢ mark → ¬ Rose (S.faults source.old) (S.faults source.new) → ¬ Rose (B.memory_faults board.old) (B.memory_faults board.new) → ¬ Rose (B.output_faults board.old) (B.output_faults board.new) → ¬ Rose (B.cuts board.old) (B.cuts board.new) → (result ≡ Status.Done) ⊎ (result ≡ Status.OutOfMemory) }
+
+    // What `show` leaves. Unformatted and Foreign come exactly where the memory is so, but for a fault before them.
+    ensures show_leaves { command_of (texts words.now) ≡ Ok Job.Show → B.tells → ShowLeaves (B.reads board.old) (B.trace board.old) (B.trace board.new) result }
+    ensures show_unformatted { (byte : ℕ) → command_of (texts words.now) ≡ Ok Job.Show → B.tells → stored (B.reads board.old) ≡ Unformatted byte → (result ≡ Status.Unformatted byte) ⊎ (result ≡ Status.Memory) }
+    ensures show_foreign { (at : ℕ) → command_of (texts words.now) ≡ Ok Job.Show → B.tells → stored (B.reads board.old) ≡ Foreign at → (result ≡ Status.Foreign at) ⊎ (result ≡ Status.Memory) }
+    ensures show_complete { (c : Configuration) (r : MeterRecord) (side : Side) → command_of (texts words.now) ≡ Ok Job.Show → B.tells → stored (B.reads board.old) ≡ Holds c r side → ¬ Rose (B.memory_faults board.old) (B.memory_faults board.new) → ¬ Rose (B.output_faults board.old) (B.output_faults board.new) → result ≡ Status.Done }
+
+    // The commands that put one line are done unless the output failed.
     ensures temp { (sensor : Sensor) (r : ℕ) → command_of (texts words.now) ≡ Ok (Job.Temp sensor r) → B.tells → TempLeaves sensor r (B.trace board.old) (B.trace board.new) result }
     ensures water { (p t : ℕ) → command_of (texts words.now) ≡ Ok (Job.Water p t) → B.tells → WaterLeaves p t (B.trace board.old) (B.trace board.new) result }
     ensures coef { (place : Place) (p tf tr : ℕ) → command_of (texts words.now) ≡ Ok (Job.Coef place p tf tr) → B.tells → CoefLeaves place p tf tr (B.trace board.old) (B.trace board.new) result }
     ensures one_line { (job : Job) → command_of (texts words.now) ≡ Ok job → PutsOneLine job → (result ≡ Status.Done) ⊎ Rose (B.output_faults board.old) (B.output_faults board.new) }
-    ensures unread { (job : Job) → command_of (texts words.now) ≡ Ok job → PutsOneLine job → source.new ≡ source.old }
 
-    // Nothing happens to the board but that bytes go out.
-    ensures puts { B.tells → PutsAlone (B.trace board.new) }
+    // They and `show` read nothing.
+    ensures unread { (job : Job) → command_of (texts words.now) ≡ Ok job → ReadsNothing job → source.new ≡ source.old }
+
+    // Each command has its own statuses.
+    ensures ends { (job : Job) → command_of (texts words.now) ≡ Ok job → EndsBy job result }
+
+    // But for `init` and `run`, nothing happens to the board but that bytes go out.
+    ensures puts { command_of (texts words.now) ≢ Ok Job.Init → command_of (texts words.now) ≢ Ok Job.Run → B.tells → PutsAlone (B.trace board.new) }
+    ensures base { B.tells → base_of (B.trace board.new) ≡ base_of (B.trace board.old) }
 
     // Faults have their causes.
     ensures read { result ≡ Status.Read → Rose (S.faults source.old) (S.faults source.new) }
+    ensures memory { result ≡ Status.Memory → Rose (B.memory_faults board.old) (B.memory_faults board.new) }
+    ensures cut { result ≡ Status.Cut → Rose (B.cuts board.old) (B.cuts board.new) }
     ensures write { result ≡ Status.Write → Rose (B.output_faults board.old) (B.output_faults board.new) }
 {
     match command(words) {
         Err(usage) => Status::Usage { word: usage.word },
+        Ok(Job::Init) => init(alloc, source, board),
+        Ok(Job::Show) => show(board),
+        Ok(Job::Run) => status_from(run(alloc, source, board)),
         Ok(Job::Dry) => status_from(dry(alloc, source, board)),
         Ok(Job::Temp { sensor, r }) => temp(board, sensor, r),
         Ok(Job::Water { p_kpa, t_udeg }) => water(board, p_kpa, t_udeg),
@@ -77,8 +129,12 @@ fn status_from(ended: Ended) -> Status
     match ended {
         Ended::Done => Status::Done,
         Ended::Line { n, kind } => Status::Line { n, kind },
+        Ended::Memory => Status::Memory,
         Ended::Read => Status::Read,
         Ended::Write => Status::Write,
+        Ended::Unformatted { byte } => Status::Unformatted { byte },
+        Ended::Foreign { at } => Status::Foreign { at },
         Ended::OutOfMemory => Status::OutOfMemory,
+        Ended::Cut => Status::Cut,
     }
 }

@@ -1,0 +1,13 @@
+use Rattle.std.proofs.Common.{◌≤◌, drop}
+use Rattle.trace_model.specs.Trace.{Trace}
+use Rattle.meter_cli.specs.Puts.{PutsLines}
+use Rattle.meter_cli.specs.Show.{bytes_of}
+use Rattle.meter_cli.specs.declared.status.Status.{Status}
+use Rattle.meter_cli.proofs.puts.put_lines.Given as goal
+
+-- what happens to the lines that are left completes what happened to those before
+abbrev pub invariant-loop-line : goal.invariant-loop-line
+invariant-loop-line g l = record {
+  goes_on : g.B.Board.tells → (new : Trace) (status : Status) → PutsLines (bytes_of (drop l.line-index l.lines)) (g.B.Board.trace l.board) new status → PutsLines (bytes_of l.lines) (g.B.Board.trace l.fn.board) new status;
+  later : g.B.Board.output_faults l.fn.board ≤ g.B.Board.output_faults l.board;
+}

@@ -1,0 +1,19 @@
+use Rattle.std.proofs.Common.{subst, sym}
+use Rattle.trace_model.specs.Output.{PutsAlone}
+use Rattle.meter_cli.proofs.Inits.{each_moment}
+use Rattle.meter_cli.proofs.Lines.{done_or}
+use Rattle.meter_cli.proofs.Shows.{shows_alone}
+use Rattle.meter_cli.proofs.top_call.meter.Goals as goal
+
+pub returns-in-Ok-Init-clause-init_moments : goal.returns-in-Ok-Init-clause-init_moments
+returns-in-Ok-Init-clause-init_moments g c = λ config p is reads tells accepts other before.
+    each_moment config _ _ p (c.requires tells) (g.met.B.Board.whole c.args.board.now tells) other (c.init.ensures.moments config reads tells accepts) before
+
+pub returns-in-Ok-Show-clause-puts : goal.returns-in-Ok-Show-clause-puts
+returns-in-Ok-Show-clause-puts g c = λ other not_run tells. shows_alone _ _ _ c.show.result (c.show.ensures.leaves tells) (subst PutsAlone (sym (c.requires tells)) tt)
+
+pub returns-in-Ok-Water-clause-one_line : goal.returns-in-Ok-Water-clause-one_line
+returns-in-Ok-Water-clause-one_line g c = λ job is one. done_or c.water.result c.water.ensures.kind c.water.ensures.write
+
+pub returns-in-Ok-Coef-clause-one_line : goal.returns-in-Ok-Coef-clause-one_line
+returns-in-Ok-Coef-clause-one_line g c = λ job is one. done_or c.coef.result c.coef.ensures.kind c.coef.ensures.write

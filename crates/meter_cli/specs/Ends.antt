@@ -1,0 +1,36 @@
+-- The statuses with which a command may end.
+use Rattle.std.specs.Prelude.{◌≡◌, ◌≢◌, ◌⊎◌, ℕ}
+use Rattle.meter_config.specs.declared.fault.ConfigFault.{ConfigFault}
+use Rattle.meter_config.specs.declared.fault.ConfigFault.TheVariants as faults
+use Rattle.run_engine.specs.declared.Ended.{Ended}
+use Rattle.run_engine.specs.Dry.{EndsWithoutMemory}
+use Rattle.meter_cli.specs.Status.{status_of}
+use Rattle.meter_cli.specs.declared.job.Job.{Job}
+use Rattle.meter_cli.specs.declared.job.Job.TheVariants.{Init, Run, Dry, Show, Temp, Water, Coef}
+use Rattle.meter_cli.specs.declared.status.Status.{Status}
+use Rattle.meter_cli.specs.declared.status.Status.TheVariants.{Done, Config, Memory, Read, Write, Unformatted, Foreign, Formatted, OutOfMemory, Cut}
+
+-- the text was refused or not read, and nothing was done
+abbrev pub EndsText : Status → Type 0
+EndsText status = ((fault : ConfigFault) × (fault ≢ faults.OutOfMemory) × (status ≡ Config fault)) ⊎ (status ≡ Read) ⊎ (status ≡ OutOfMemory)
+
+-- the memory was asked to hold a configuration
+abbrev pub EndsFormat : Status → Type 0
+EndsFormat status = (status ≡ Done) ⊎ (status ≡ Memory) ⊎ (status ≡ Write) ⊎ (status ≡ Formatted) ⊎ (status ≡ Cut)
+
+-- the memory was asked what it holds
+abbrev pub EndsShow : Status → Type 0
+EndsShow status = (status ≡ Done) ⊎ (status ≡ Memory) ⊎ (status ≡ Write) ⊎ ((byte : ℕ) × (status ≡ Unformatted byte)) ⊎ ((at : ℕ) × (status ≡ Foreign at))
+
+-- one line was put, or not
+abbrev pub EndsLine : Status → Type 0
+EndsLine status = (status ≡ Done) ⊎ (status ≡ Write)
+
+abbrev pub EndsBy : Job → Status → Type 0
+EndsBy Init status = EndsText status ⊎ EndsFormat status
+EndsBy Run status = (ended : Ended) × (status ≡ status_of ended)
+EndsBy Dry status = (ended : Ended) × EndsWithoutMemory ended × (status ≡ status_of ended)
+EndsBy Show status = EndsShow status
+EndsBy (Temp sensor r) status = EndsLine status
+EndsBy (Water p t) status = EndsLine status
+EndsBy (Coef place p tf tr) status = EndsLine status

@@ -1,0 +1,31 @@
+//! The command `show`.
+ghost use Rattle.std.specs.Prelude.{◌≡◌, ◌⊎◌, ℕ};
+ghost use Rattle.config_model.specs.Configuration.{Configuration};
+ghost use Rattle.metering_model.specs.Records.{MeterRecord};
+ghost use Rattle.memory_model.specs.Stored.{Foreign, Holds, Side, Unformatted, stored};
+ghost use Rattle.meter_board.specs.Causes.{Rose};
+ghost use Rattle.meter_cli.specs.Ends.{EndsShow};
+ghost use Rattle.meter_cli.specs.Show.{ShowLeaves};
+
+use crate::puts::put_lines;
+use crate::show_lines::show_lines;
+use crate::status::{Status, memory_status};
+use meter_board::Board;
+use register_store::recover;
+
+/// Puts what the memory holds, one line by each put: the serial number, the day, the number of events, the
+/// volume, the energy, the register, the faulty pulses, the set day's entry, and the month entries, oldest first.
+pub fn show<B: Board>(board: &mut B) -> Status
+    ensures leaves { B.tells → ShowLeaves (B.reads board.old) (B.trace board.old) (B.trace board.new) result }
+    ensures memory { result ≡ Status.Memory → Rose (B.memory_faults board.old) (B.memory_faults board.new) }
+    ensures write { result ≡ Status.Write → Rose (B.output_faults board.old) (B.output_faults board.new) }
+    ensures ends { EndsShow result }
+{
+    match recover(board) {
+        Ok((config, meter_record, _)) => put_lines(
+            board,
+            show_lines(&config, &meter_record).as_slice(),
+        ),
+        Err(fault) => memory_status(fault),
+    }
+}
