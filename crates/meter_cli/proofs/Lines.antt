@@ -3,7 +3,7 @@ use Rattle.std.proofs.Common.{◌≡◌, ◌⊎◌, inl, inr, ℕ, ◌+◌, ◌<
 use Rattle.std.proofs.lemmas.List.{drop_more}
 use Rattle.std.proofs.Math.ListN.{drop_of_length-le}
 use Rattle.arrayvec.specs.ArrayString.{ArrayString}
-use Rattle.trace_model.specs.Trace.{Trace, Put, ◌▷◌}
+use Rattle.trace_model.specs.Trace.{Trace, Put, ◌▷◌, base_of}
 use Rattle.trace_model.specs.Output.{PutsAlone}
 use Rattle.trace_model.specs.Moments.{Grew, Leaves, more}
 use Rattle.trace_model.proofs.Images.{before_put}
@@ -63,3 +63,10 @@ module _ (lines : List ArrayString) (i : ℕ) (line : ArrayString) (bytes : List
 
 pub lines_done : (lines : List ArrayString) (i : ℕ) (t : Trace) → length lines ≤ i → PutsLines (bytes_of (drop i lines)) t t Done
 lines_done lines i t past = subst (λ ls. PutsLines ls t t Done) (sym (ap bytes_of (drop_of_length-le lines past))) (refl, refl)
+
+-- lines leave the base
+pub lines_base : (lines : List (List ℕ)) (old new : Trace) (status : Status) → PutsLines lines old new status → base_of new ≡ base_of old
+lines_base [] old new status puts = ap base_of puts.1
+lines_base (line ∷ lines) old new status (inl more) = lines_base lines (old ▷ Put line) new status more
+lines_base (line ∷ lines) old new status (inr (is, inl none)) = ap base_of none
+lines_base (line ∷ lines) old new status (inr (is, inr piece)) = ap base_of piece.2

@@ -7,10 +7,10 @@ use Rattle.billing_memory.specs.declared.entry.Entry.{Entry}
 use Rattle.billing_memory.specs.Entries.{entry_view, entries_view}
 use Rattle.show_model.specs.Lines.{AreMonthLines, IsEntryLine}
 use Rattle.config_model.specs.Configuration.{Configuration}
-use Rattle.trace_model.specs.Trace.{Trace}
+use Rattle.trace_model.specs.Trace.{Trace, base_of}
 use Rattle.trace_model.specs.Output.{PutsAlone}
 use Rattle.meter_cli.specs.Show.{ShowLeaves, Shows, bytes_of}
-use Rattle.meter_cli.proofs.Lines.{alone_lines}
+use Rattle.meter_cli.proofs.Lines.{alone_lines, lines_base}
 use Rattle.meter_cli.specs.declared.status.Status.{Status}
 use Rattle.meter_cli.specs.declared.status.Status.TheVariants.{Done, Usage, Config, Line, Memory, Read, Write, Unformatted, Foreign, Formatted, OutOfMemory, Cut}
 
@@ -28,6 +28,20 @@ module _ (memory : List ℕ) (old new : Trace) where
   shows_alone Formatted l alone = absurd l
   shows_alone OutOfMemory l alone = absurd l
   shows_alone Cut l alone = absurd l
+
+  pub shows_base : (status : Status) → ShowLeaves memory old new status → base_of new ≡ base_of old
+  shows_base Done l = lines_base l.lines old new Done l.puts
+  shows_base (Usage word) l = absurd l
+  shows_base (Config fault) l = absurd l
+  shows_base (Line n kind) l = absurd l
+  shows_base Memory l = ap base_of l
+  shows_base Read l = absurd l
+  shows_base Write l = lines_base l.lines old new Write l.puts
+  shows_base (Unformatted byte) l = ap base_of l.1
+  shows_base (Foreign at) l = ap base_of l.1
+  shows_base Formatted l = absurd l
+  shows_base OutOfMemory l = absurd l
+  shows_base Cut l = absurd l
 
   pub shows_status : (status : Status) → (status ≡ Done) ⊎ (status ≡ Write) → Shows memory old new status → ShowLeaves memory old new status
   shows_status status (inl is) s = subst (ShowLeaves memory old new) (sym is) (subst (Shows memory old new) is s)

@@ -41,6 +41,7 @@ pub fn init<S: Source, B: Board>(alloc: Global, source: &mut S, board: &mut B) -
     ensures untouched { EndsText result → board.new ≡ board.old }
     ensures marked { B.tells → slice_index (B.reads board.old) 0 ≡ mark → B.trace board.new ≡ B.trace board.old }
     ensures moments { (c : Configuration) → S.tells → B.tells → accepted (S.left source.old) ≡ Ok c → Grew (Leaves (UnformattedOr c (first_record c))) (B.trace board.old) (B.trace board.new) }
+    ensures base { B.tells → base_of (B.trace board.new) ≡ base_of (B.trace board.old) }
     ensures ends { EndsText result ⊎ EndsFormat result }
     ensures read { result ≡ Status.Read → Rose (S.faults source.old) (S.faults source.new) }
     ensures memory { result ≡ Status.Memory → Rose (B.memory_faults board.old) (B.memory_faults board.new) }
@@ -97,6 +98,7 @@ fn hold<B: Board>(board: &mut B, config: &Config) -> Status
     ensures leaves { B.tells → InitLeaves (λ c. c ≡ config_view config.now) (B.reads board.old) (B.trace board.old) (B.trace board.new) result }
     ensures marked { B.tells → slice_index (B.reads board.old) 0 ≡ mark → B.trace board.new ≡ B.trace board.old }
     ensures moments { B.tells → Grew (Leaves (UnformattedOr (config_view config.now) (first_record (config_view config.now)))) (B.trace board.old) (B.trace board.new) }
+    ensures base { B.tells → base_of (B.trace board.new) ≡ base_of (B.trace board.old) }
     ensures ends { EndsFormat result }
     ensures memory { result ≡ Status.Memory → Rose (B.memory_faults board.old) (B.memory_faults board.new) }
     ensures cut { result ≡ Status.Cut → Rose (B.cuts board.old) (B.cuts board.new) }

@@ -2,7 +2,7 @@ use Rattle.std.proofs.Common.{subst, sym}
 use Rattle.trace_model.specs.Output.{PutsAlone}
 use Rattle.meter_cli.proofs.Inits.{each_moment}
 use Rattle.meter_cli.proofs.Lines.{done_or}
-use Rattle.meter_cli.proofs.Shows.{shows_alone}
+use Rattle.meter_cli.proofs.Shows.{shows_alone, shows_base}
 use Rattle.meter_cli.proofs.top_call.meter.Goals as goal
 
 pub returns-in-Ok-Init-clause-init_moments : goal.returns-in-Ok-Init-clause-init_moments
@@ -17,3 +17,6 @@ returns-in-Ok-Water-clause-one_line g c = λ job is one. done_or c.water.result 
 
 pub returns-in-Ok-Coef-clause-one_line : goal.returns-in-Ok-Coef-clause-one_line
 returns-in-Ok-Coef-clause-one_line g c = λ job is one. done_or c.coef.result c.coef.ensures.kind c.coef.ensures.write
+
+pub returns-in-Ok-Show-clause-base : goal.returns-in-Ok-Show-clause-base
+returns-in-Ok-Show-clause-base g c = λ tells. shows_base _ _ _ c.show.result (c.show.ensures.leaves tells)
