@@ -7,7 +7,7 @@ use crate::judged::Judged;
 /// The limits of a class of flow sensors.
 #[derive(Clone, Copy)]
 struct ClassLimits {
-    /// What the permanent flow over the flow adds to the limit, in 0.01 %.
+    /// What the permanent flow over the flow adds to the limit, in 0.01 %, beside the number of the class in percent.
     small_flow_share: u128,
     /// The greatest limit, in 0.1 %.
     greatest: u128,

@@ -4,22 +4,27 @@ use interval_num::Span;
 use pt_curve::{Curve, Sensor};
 use std::test::Fail;
 
+// the limits are 1.5 % where the difference is the least one
 #[test]
 fn calculators(rt: HostRuntime) {
-    let q = Litre {
-        lo_mj: 12_500_000,
-        hi_mj: 12_510_000,
-    };
     let undecided = Judged::Undecided {
         lo: 12_500_000,
         hi: 12_510_000,
     };
-    for (energy_mj, judged) in [
-        (12_650_000, Judged::Pass),
-        (12_690_000, undecided),
-        (12_700_000, Judged::High),
-        (12_300_000, Judged::Low),
+    for (hi_mj, energy_mj, judged) in [
+        (12_510_000, 12_650_000, Judged::Pass),
+        (12_510_000, 12_690_000, undecided),
+        (12_510_000, 12_700_000, Judged::High),
+        (12_510_000, 12_300_000, Judged::Low),
+        (12_500_000, 12_687_500, Judged::Pass),
+        (12_500_000, 12_687_501, Judged::High),
+        (12_500_000, 12_312_500, Judged::Pass),
+        (12_500_000, 12_312_499, Judged::Low),
     ] {
+        let q = Litre {
+            lo_mj: 12_500_000,
+            hi_mj,
+        };
         assert_eq!(rt; judge_point(3_000_000, 3_000_000, 1, energy_mj, q), judged);
     }
 }

@@ -21,14 +21,15 @@ abbrev pub below_ℚ : Fraction → Fraction → Bool
 below_ℚ x y = int_lt (x.num *ℤ pos y.den) (y.num *ℤ pos x.den)
 
 -- The calculator's verdict, where it indicated the energy E for L litres that gave off q each, at the temperature difference
--- D with the least difference m. The limits of E are L q plus and minus (0.5 + m / D) % of it.
+-- D with the least difference m. The limits of E are L q plus and minus (0.5 + m / D) % of it. E and q are in one unit, and
+-- so are D and m.
 unfoldable pub calculator_verdict : (m D L E : ℕ) → Fraction → Verdict
 calculator_verdict m D L E q = verdict_of
     (below_ℚ (whole ((201 * D + 2 * m) * L) *ℚ q) (whole (200 * D * E)))
     (below_ℚ (whole (200 * D * E)) (integer ((pos (199 * D) -ℤ pos (2 * m)) *ℤ pos L) *ℚ q))
 
 -- The sensor pair's verdict, where it read the temperature difference d in place of D with the least difference m. The
--- limits of d are D plus and minus (0.5 + 3 m / D) % of it.
+-- limits of d are D plus and minus (0.5 + 3 m / D) % of it. All are in one unit.
 unfoldable pub pair_verdict : (m D : ℕ) → Fraction → Verdict
 pair_verdict m D d = verdict_of
     (below_ℚ (whole (D + 6 * m)) (whole 200 *ℚ (d -ℚ whole D)))
@@ -38,7 +39,7 @@ pair_verdict m D d = verdict_of
 abbrev pub distance : ℕ → ℕ → ℕ
 distance a b = (a - b) + (b - a)
 
--- a flow sensor's limit at great flows, in percent, is the number of its class, 1 to 3; this is what qp / q adds, in 0.01 %
+-- what the permanent flow over the flow adds to a flow sensor's limit, in 0.01 %, beside the number of its class in percent
 abbrev pub small_flow_share : ℕ → ℕ
 small_flow_share class = if class == 1 then 1 else if class == 2 then 2 else 5
 
