@@ -29,13 +29,18 @@ energy_value c r = codes "(" ++ energy_text c r ++ codes "*kWh)\r\n"
 abbrev pub volume_value : Configuration → Register → List ℕ
 volume_value c r = codes "(" ++ volume_text c r ++ codes "*m3)\r\n"
 
--- the lines of the serial number, the registers and the day
+-- the line of the serial number
+abbrev pub serial_line : Configuration → List ℕ
+serial_line c = codes "9.21(" ++ eight_digits c.serial ++ codes ")\r\n"
+
+-- the line of a day
+abbrev pub day_line : (day : List ℕ) → List ℕ
+day_line day = codes "9.36(" ++ day ++ codes ")\r\n"
+
+-- the lines of the serial number, of a register and of a day
 abbrev pub first_lines : Configuration → Register → (day : List ℕ) → List ℕ
 first_lines c r day =
-    codes "9.21(" ++ eight_digits c.serial ++ codes ")\r\n"
-    ++ codes "6.8" ++ energy_value c r
-    ++ codes "6.26" ++ volume_value c r
-    ++ codes "9.36(" ++ day ++ codes ")\r\n"
+    serial_line c ++ codes "6.8" ++ energy_value c r ++ codes "6.26" ++ volume_value c r ++ day_line day
 
 -- the mark of an entry and its day
 abbrev pub marked : (mark : ℕ) → (day : List ℕ) → List ℕ
@@ -44,8 +49,7 @@ marked mark day = codes "*" ++ two_digits mark ++ codes "(" ++ day ++ codes ")"
 -- the two lines of an entry
 abbrev pub entry_lines : Configuration → Register → (mark : ℕ) → (day : List ℕ) → List ℕ
 entry_lines c r mark day =
-    codes "6.8" ++ marked mark day ++ energy_value c r
-    ++ codes "6.26" ++ marked mark day ++ volume_value c r
+    codes "6.8" ++ marked mark day ++ energy_value c r ++ codes "6.26" ++ marked mark day ++ volume_value c r
 
 -- the lines of entries, the first with this mark and each with one more than the one before it
 abbrev pub AreEntryLines : Configuration → (mark : ℕ) → List (MonthEntry Register) → List ℕ → Type 0
