@@ -1,6 +1,8 @@
+ghost use Rattle.std.specs.Prelude.{◌≤◌, nat_abs};
+
 use crate::{Optical, REPLY_ROOM};
 use arrayvec::ArrayVec;
-use billing_memory::{MeterRecord, day_of};
+use billing_memory::{Day, MeterRecord, day_of};
 use energy_register::{PulsesFull, Step};
 use meter_config::Config;
 use std::test::Fail;
@@ -9,22 +11,25 @@ const REQUEST: &[u8] = b"/?!\r\n";
 
 const DATA_SELECT: &[u8] = b"\x06050\r\n";
 
-fn energy_step(e_mj: i128) -> Step
-    ensures { (result.e_mj ≡ e_mj) × (result.b_mj ≡ 0) }
+// The record of a new meter after three pulses with an energy in millijoules.
+fn three_pulses(day: Day, e_mj: i128) -> Result<MeterRecord, PulsesFull>
+    requires { nat_abs e_mj ≤ 6000000000000 }
 {
-    Step {
+    let mut record = MeterRecord::opening(day);
+    let step = Step {
         e_mj,
         b_mj: 0,
         faulty: 0,
-    }
-}
-
-// The record of a new meter of the standard configuration after three pulses.
-fn three_pulses() -> Result<MeterRecord, PulsesFull> {
-    let mut record = MeterRecord::opening(Config::standard().opening_day);
-    let register = record.register.after(energy_step(0), 3)?;
+    };
+    let register = record.register.after(step, 3)?;
     record.register = register;
     Ok(record)
+}
+
+// The standard configuration, and the record of a new meter of it after three pulses.
+fn standard() -> Result<(Config, MeterRecord), PulsesFull> {
+    let c = Config::standard();
+    Ok((c, three_pulses(c.opening_day, 0)?))
 }
 
 fn is_reply(reply: &Option<ArrayVec<u8, REPLY_ROOM>>, text: &[u8]) -> bool {
@@ -36,7 +41,7 @@ fn is_reply(reply: &Option<ArrayVec<u8, REPLY_ROOM>>, text: &[u8]) -> bool {
 
 #[test]
 fn a_request_and_an_option_select_are_answered(rt: HostRuntime) -> Result<(), Fail> {
-    let (c, m) = (Config::standard(), three_pulses()?);
+    let (c, m) = standard()?;
     let mut head = Optical::new();
     assert!(rt; is_reply(&head.hear(REQUEST, &c, &m), b"/ABC5HEAT\r\n"));
     assert!(rt;
@@ -51,7 +56,7 @@ fn a_request_and_an_option_select_are_answered(rt: HostRuntime) -> Result<(), Fa
 
 #[test]
 fn a_select_is_answered_directly_after_a_request_alone(rt: HostRuntime) -> Result<(), Fail> {
-    let (c, m) = (Config::standard(), three_pulses()?);
+    let (c, m) = standard()?;
     let mut head = Optical::new();
     assert!(rt; head.hear(DATA_SELECT, &c, &m).is_none());
     for other in [
@@ -70,7 +75,7 @@ fn a_select_is_answered_directly_after_a_request_alone(rt: HostRuntime) -> Resul
 
 #[test]
 fn an_address_is_the_serial_number(rt: HostRuntime) -> Result<(), Fail> {
-    let (c, m) = (Config::standard(), three_pulses()?);
+    let (c, m) = standard()?;
     let mut head = Optical::new();
     assert!(rt; head.hear(b"/?12345678!\r\n", &c, &m).is_some());
     assert!(rt; head.hear(b"/?012345678!\r\n", &c, &m).is_some());
@@ -92,9 +97,8 @@ fn an_address_is_the_serial_number(rt: HostRuntime) -> Result<(), Fail> {
 
 #[test]
 fn a_serial_number_of_zeros_is_any_zeros(rt: HostRuntime) -> Result<(), Fail> {
-    let mut c = Config::standard();
+    let (mut c, m) = standard()?;
     c.serial = 0;
-    let m = three_pulses()?;
     let mut head = Optical::new();
     assert!(rt; head.hear(b"/?!\r\n", &c, &m).is_some());
     assert!(rt; head.hear(b"/?0!\r\n", &c, &m).is_some());
@@ -107,24 +111,17 @@ fn a_serial_number_of_zeros_is_any_zeros(rt: HostRuntime) -> Result<(), Fail> {
 #[test]
 fn entries_are_said_newest_first(rt: HostRuntime) -> Result<(), Fail> {
     let c = Config::standard();
-    let mut m = MeterRecord::opening(day_of(2024, 12, 15).ok_or("no date")?);
-    let register = m.register.after(energy_step(0), 3)?;
-    m.register = register;
-    m.move_to(day_of(2025, 1, 5).ok_or("no date")?, 1)?;
-    let register = m.register.after(energy_step(7_200_000_000), 4)?;
-    m.register = register;
+    let mut m = three_pulses(day_of(2024, 12, 15).ok_or("no date")?, 7_200_000_000)?;
     m.move_to(day_of(2025, 2, 10).ok_or("no date")?, 1)?;
-    let register = m.register.after(energy_step(3_600_000_000), 1)?;
-    m.register = register;
     let mut head = Optical::new();
     assert!(rt; head.hear(REQUEST, &c, &m).is_some());
     assert!(rt;
         is_reply(
             &head.hear(DATA_SELECT, &c, &m),
-            b"\x029.21(12345678)\r\n6.8(00000003*kWh)\r\n6.26(000000.08*m3)\r\n9.36(2025-02-10)\r\n\
-6.8*01(2025-01-01)(00000000*kWh)\r\n6.26*01(2025-01-01)(000000.03*m3)\r\n\
-6.8*02(2025-02-01)(00000002*kWh)\r\n6.26*02(2025-02-01)(000000.07*m3)\r\n\
-6.8*03(2025-01-01)(00000000*kWh)\r\n6.26*03(2025-01-01)(000000.03*m3)\r\n!\r\n\x03#",
+            b"\x029.21(12345678)\r\n6.8(00000002*kWh)\r\n6.26(000000.03*m3)\r\n9.36(2025-02-10)\r\n\
+6.8*01(2025-01-01)(00000002*kWh)\r\n6.26*01(2025-01-01)(000000.03*m3)\r\n\
+6.8*02(2025-02-01)(00000002*kWh)\r\n6.26*02(2025-02-01)(000000.03*m3)\r\n\
+6.8*03(2025-01-01)(00000002*kWh)\r\n6.26*03(2025-01-01)(000000.03*m3)\r\n!\r\n\x03-",
         )
     );
     Ok(())
@@ -132,7 +129,7 @@ fn entries_are_said_newest_first(rt: HostRuntime) -> Result<(), Fail> {
 
 #[test]
 fn month_entries_begin_at_02(rt: HostRuntime) -> Result<(), Fail> {
-    let (c, mut m) = (Config::standard(), three_pulses()?);
+    let (c, mut m) = standard()?;
     m.move_to(day_of(2024, 2, 10).ok_or("no date")?, 1)?;
     let mut head = Optical::new();
     assert!(rt; head.hear(REQUEST, &c, &m).is_some());
