@@ -2,6 +2,8 @@
 #![tactic(auto)]
 
 mod formatting;
+#[cfg(test)]
+mod hostile_tests;
 mod layout;
 mod recovery;
 mod settling;
