@@ -3,18 +3,19 @@ ghost use Rattle.std.specs.Prelude.{◌≡◌};
 
 use crate::counts::raise;
 use crate::{Board, Failed, Refusal};
-use std::fs::{OpenFile, OpenOptions};
-use std::io;
+use std::fs::{File, OpenFile, OpenOptions};
 use std::io::{ErrorKind, Read, Seek, SeekFrom, Write};
 use std::rt::Files;
+use std::{fs, io};
 
 /// How many bytes the file has.
 const MEMORY_LEN: u64 = 16_384;
 
 /// A board whose memory is a file and whose output is standard output. It tells nothing of their bytes.
 ///
-/// The first call on the memory opens the file, and makes one of zero bytes where there is none. A file of
-/// another length, a folder, and a file that can't be opened are memory faults, and are left as they are.
+/// The first call on the memory opens the file, and makes one of zero bytes where there is none, whose bytes and
+/// whose name in its folder are settled at once. Where that fails it is taken away again. A file of another
+/// length, a folder, and a file that can't be opened are memory faults, and are left as they are.
 #[derive(Drop)]
 pub struct FileBoard<'a, R: Files + Print> {
     rt: &'a R,
@@ -95,11 +96,37 @@ fn open_memory<R: Files>(rt: &R, path: &str) -> io::Result<R::File> {
         }
         Err(error) if error.kind() == ErrorKind::NotFound => {
             how.create_new(true);
-            let file = how.open(rt, path)?;
-            file.set_len(MEMORY_LEN)?;
-            Ok(file)
+            make_memory(rt, &how, path)
         }
         Err(error) => Err(error),
+    }
+}
+
+// Makes the file of a memory, and takes it away again where it can't be made whole.
+fn make_memory<R: Files>(rt: &R, how: &OpenOptions, path: &str) -> io::Result<R::File> {
+    let file = how.open(rt, path)?;
+    match settle_new(rt, path, &file) {
+        Ok(()) => Ok(file),
+        Err(error) => {
+            // The first error is the one that counts.
+            let _ = fs::remove_file(rt, path);
+            Err(error)
+        }
+    }
+}
+
+// Gives a new file its bytes, and settles them and its name in its folder.
+fn settle_new<R: Files>(rt: &R, path: &str, file: &R::File) -> io::Result<()> {
+    file.set_len(MEMORY_LEN)?;
+    file.sync_all()?;
+    File::open(rt, folder_of(path))?.sync_all()
+}
+
+fn folder_of(path: &str) -> &str {
+    match path.rsplit_once('/') {
+        Some(("", _)) => "/",
+        Some((folder, _)) => folder,
+        None => ".",
     }
 }
 

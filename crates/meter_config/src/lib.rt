@@ -3,6 +3,8 @@
 
 mod config;
 mod fault;
+#[cfg(test)]
+mod hostile_tests;
 mod keys;
 mod read;
 mod values;

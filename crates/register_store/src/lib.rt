@@ -3,6 +3,8 @@
 
 mod committing;
 mod formatting;
+#[cfg(test)]
+mod hostile_tests;
 mod layout;
 mod recovery;
 mod settling;
