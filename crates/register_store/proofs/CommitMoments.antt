@@ -1,14 +1,14 @@
 -- What the memory holds at each moment of a commit.
 use Rattle.std.proofs.Common.{◌≡◌, inl, inr, ℕ, ◌+◌, ◌<◌, ◌≤◌, Bool, true, false, eqb, cond, List, [], ◌∷◌, ◌⊎◌, length, get_or, take, drop, refl, sym, ap, ◌∙◌, subst, arith, Result, Ok, Err}
 use Rattle.std.specs.Prelude.{OnOk}
-use Rattle.std.proofs.lemmas.Bool.{cases_Bool, eqb-true}
+use Rattle.std.proofs.lemmas.Bool.{eqb-true}
 use Rattle.std.proofs.lemmas.Bool.Decides.{nat_tests}
 use Rattle.std.proofs.lemmas.List.{same_lists, get_or_default, get_or-drop, get_or-take, get_or_at, length-drop, length-take, length-take-le, take_at, drop_at}
 use Rattle.config_model.specs.Configuration.{Configuration}
 use Rattle.metering_model.specs.Records.{MeterRecord}
 use Rattle.memory_model.specs.Header.{header_in}
 use Rattle.memory_model.specs.Slot.{record_in}
-use Rattle.memory_model.specs.Stored.{Side, A, B, Stored, Holds, Unformatted, stored, stored_on, stored_from, with_header, chosen, side_of, slot_at}
+use Rattle.memory_model.specs.Stored.{Side, A, B, Holds, Unformatted, stored, stored_on, stored_from, with_header, chosen, side_of, slot_at}
 use Rattle.trace_model.specs.Trace.{Trace}
 use Rattle.trace_model.specs.Images.{IsImage, NothingPending, SameOutside, is_within, replaced}
 use Rattle.trace_model.specs.Moments.{Grew, Leaves}

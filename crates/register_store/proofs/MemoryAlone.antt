@@ -1,11 +1,11 @@
 -- Stretches of a trace in which the memory alone worked.
-use Rattle.std.proofs.Common.{◌≡◌, inl, inr, ℕ, ◌+◌, ◌≤◌, Bool, true, false, cond, List, [], ◌∷◌, ◌++◌, refl, sym, ap, ◌∙◌, subst, arith, append_assoc, Result, Ok, Err}
+use Rattle.std.proofs.Common.{◌≡◌, ℕ, ◌+◌, ◌≤◌, Bool, true, false, cond, List, [], ◌∷◌, ◌++◌, refl, sym, ap, ◌∙◌, arith, append_assoc, Result, Ok, Err}
 use Rattle.std.specs.Prelude.{All, count_by}
 use Rattle.std.proofs.lemmas.List.{append-nil}
 use Rattle.std.proofs.lemmas.List.Elements.{All-nil, All-push}
 use Rattle.std.proofs.lemmas.List.Sums.{sum_by-append, sum_by_push}
-use Rattle.trace_model.specs.Trace.{Entry, Store, Sync, Missed, Put, Arm, Cut, Trace, Start, ◌▷◌}
-use Rattle.trace_model.specs.Output.{OutputLine, bytes_put, is_output_line, open_segment, output_lines}
+use Rattle.trace_model.specs.Trace.{Entry, Store, Sync, Missed, Put, Arm, Cut, Trace, ◌▷◌}
+use Rattle.trace_model.specs.Output.{bytes_put, is_output_line, open_segment, output_lines}
 use Rattle.trace_model.specs.Moments.{Grew, same, more}
 use Rattle.trace_model.proofs.Moments.{Grew-weaker}
 use Rattle.register_store.specs.declared.store_fault.StoreFault.{StoreFault}

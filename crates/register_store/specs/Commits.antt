@@ -7,6 +7,7 @@ use Rattle.memory_model.specs.Slot.{record_in}
 use Rattle.memory_model.specs.Stored.{Side, A, B, Stored, Holds, slot_at, stored}
 use Rattle.trace_model.specs.Trace.{Trace, Cut, ◌▷◌}
 
+-- the slot that a side isn't
 abbrev pub other : Side → Side
 other A = B
 other B = A
@@ -22,6 +23,7 @@ pub record StandsOn (side : Side) (memory : List ℕ) : Type 0 where
   pub held : MeterRecord
   pub is : stored memory ≡ Holds config held side
 
+-- the bytes stand for this
 abbrev pub StandsFor : Stored → List ℕ → Type 0
 StandsFor what image = stored image ≡ what
 

@@ -1,5 +1,4 @@
 use Rattle.std.proofs.Common.{◌∙◌}
-use Rattle.std.proofs.lemmas.Result.{on_ok_weaker}
 use Rattle.billing_memory.specs.Records.{record_view}
 use Rattle.trace_model.proofs.Moments.{Grew-then}
 use Rattle.register_store.specs.Recovered.{side_view}

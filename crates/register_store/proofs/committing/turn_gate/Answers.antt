@@ -1,6 +1,6 @@
-use Rattle.std.proofs.Common.{◌≡◌, ◌∷◌, ◌∙◌, [], ap, rules}
+use Rattle.std.proofs.Common.{◌∷◌, ◌∙◌, [], ap, rules}
 use Rattle.trace_model.specs.Images.{replaced}
-use Rattle.register_store.specs.Commits.{gate_of, other}
+use Rattle.register_store.specs.Commits.{gate_of}
 use Rattle.register_store.specs.Recovered.{side_view}
 use Rattle.register_store.proofs.CommitMoments.{turn_moments, turn_left, turn_holds}
 use Rattle.register_store.proofs.committing.turn_gate.Goals as goal
