@@ -65,8 +65,13 @@ pub lines_done : (lines : List ArrayString) (i : ℕ) (t : Trace) → length lin
 lines_done lines i t past = subst (λ ls. PutsLines ls t t Done) (sym (ap bytes_of (drop_of_length-le lines past))) (refl, refl)
 
 -- lines leave the base
+front_base : (old new : Trace) (text : List ℕ) → PutsFront old text new → base_of new ≡ base_of old
+front_base old new text (inl none) = ap base_of none
+front_base old new text (inr piece) = ap base_of piece.2
+
 pub lines_base : (lines : List (List ℕ)) (old new : Trace) (status : Status) → PutsLines lines old new status → base_of new ≡ base_of old
 lines_base [] old new status puts = ap base_of puts.1
-lines_base (line ∷ lines) old new status (inl more) = lines_base lines (old ▷ Put line) new status more
-lines_base (line ∷ lines) old new status (inr (is, inl none)) = ap base_of none
-lines_base (line ∷ lines) old new status (inr (is, inr piece)) = ap base_of piece.2
+lines_base (line ∷ lines) old new status puts = by_first puts where
+  by_first : PutsLines lines (old ▷ Put line) new status ⊎ ((status ≡ Write) × PutsFront old line new) → base_of new ≡ base_of old
+  by_first (inl others) = lines_base lines (old ▷ Put line) new status others
+  by_first (inr front) = front_base old new line front.1

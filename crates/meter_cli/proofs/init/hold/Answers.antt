@@ -1,4 +1,4 @@
-use Rattle.std.proofs.Common.{◌∙◌, subst}
+use Rattle.std.proofs.Common.{◌∙◌, ◌∷◌, [], subst}
 use Rattle.meter_config.specs.Views.{config_view}
 use Rattle.metering_model.specs.Records.{MeterRecord}
 use Rattle.trace_model.specs.Moments.{Grew, Leaves}
@@ -25,7 +25,7 @@ returns-in-Ok-clause-moments g c = λ tells.
     (subst (λ (r : MeterRecord). Grew (Leaves (UnformattedOr config r)) (g.B.Board.trace c.args.board.now) (g.B.Board.trace c.format.new.board)) c.opening.ensures (c.in-Ok.ensures.moments tells))
 
 pub returns-in-Ok-clause-base : goal.returns-in-Ok-clause-base
-returns-in-Ok-clause-base g c = λ tells. lines_base _ _ _ c.put_line.result (c.put_line.ensures.puts tells) ∙ Grew-base (c.in-Ok.ensures.moments tells)
+returns-in-Ok-clause-base g c = λ tells. lines_base (c.as_bytes.result.now ∷ []) (g.B.Board.trace c.format.new.board) (g.B.Board.trace c.put_line.new.board) c.put_line.result (c.put_line.ensures.puts tells) ∙ Grew-base (c.in-Ok.ensures.moments tells)
 
 pub returns-in-Err-clause-base : goal.returns-in-Err-clause-base
 returns-in-Err-clause-base g c = λ tells. Grew-base (c.format.ensures.moments tells)
