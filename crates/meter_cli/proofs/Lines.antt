@@ -71,7 +71,7 @@ front_base old new text (inr piece) = ap base_of piece.2
 
 pub lines_base : (lines : List (List ℕ)) (old new : Trace) (status : Status) → PutsLines lines old new status → base_of new ≡ base_of old
 lines_base [] old new status puts = ap base_of puts.1
-lines_base (line ∷ lines) old new status puts = by_first puts where
-  by_first : PutsLines lines (old ▷ Put line) new status ⊎ ((status ≡ Write) × PutsFront old line new) → base_of new ≡ base_of old
-  by_first (inl others) = lines_base lines (old ▷ Put line) new status others
-  by_first (inr front) = front_base old new line front.1
+lines_base (line ∷ lines) old new status puts = by_first (lines_base lines (old ▷ Put line) new status) puts where
+  by_first : (PutsLines lines (old ▷ Put line) new status → base_of new ≡ base_of (old ▷ Put line)) → PutsLines lines (old ▷ Put line) new status ⊎ ((status ≡ Write) × PutsFront old line new) → base_of new ≡ base_of old
+  by_first others (inl went) = others went
+  by_first others (inr front) = front_base old new line front.1
