@@ -5,6 +5,8 @@ mod init;
 mod job;
 mod physics;
 mod puts;
+#[cfg(test)]
+mod run_tests;
 mod show;
 mod show_lines;
 mod status;

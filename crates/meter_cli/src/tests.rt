@@ -501,6 +501,7 @@ fn a_coefficient_is_as_published(rt: HostRuntime) -> Result<(), Fail> {
 fn words_are_tested(rt: HostRuntime) {
     assert_eq!(&rt; command(&["dry"]), Ok(Job::Dry));
     assert_eq!(&rt; command(&["init"]), Ok(Job::Init));
+    assert_eq!(&rt; command(&["run"]), Ok(Job::Run));
     assert_eq!(&rt; command(&["show"]), Ok(Job::Show));
     assert_eq!(&rt;
         command(&["temp", "500", "0"]),
@@ -520,7 +521,8 @@ fn words_are_tested(rt: HostRuntime) {
     );
     for (words, word) in [
         ([].as_slice(), 0),
-        (["run"].as_slice(), 0),
+        (["Run"].as_slice(), 0),
+        (["run", "now"].as_slice(), 1),
         (["--help"].as_slice(), 0),
         (["dry", "now"].as_slice(), 1),
         (["init", "now"].as_slice(), 1),
