@@ -7,7 +7,7 @@ use crate::*;
 use billing_memory::{MeterRecord, day_of};
 use energy_register::{Register, Step};
 use event_script::LineFault;
-use meter_board::{CallKind, SimBoard, SliceSource};
+use meter_board::{Board, CallKind, SimBoard, SliceSource};
 use meter_config::{Config, ConfigFault};
 use pt_curve::Sensor;
 use register_store::format;
@@ -23,8 +23,6 @@ const SHOW: [&str; 1] = ["show"];
 
 const DEFAULT: &str =
     "{\"serial\":\"12345678\",\"maker\":\"ABC\",\"version\":1,\"address\":1,\"place\":\"return\",\"pressure_kpa\":1600,\"sensor\":500,\"litres_per_pulse\":10,\"energy_decimals\":0,\"volume_decimals\":2,\"set_month\":1,\"opening_day\":\"2024-01-15\"}";
-
-const ZEROS: [u8; 16384] = [0; 16384];
 
 fn board(rt: &impl AllocGlobal) -> Result<SimBoard, Fail>
     ensures { IfOk result (λ b. IsFresh (sim_trace b)) }
@@ -237,65 +235,73 @@ fn faults_are_told(rt: HostRuntime) -> Result<(), Fail> {
 }
 
 // A board over this image of its memory.
-fn board_over(rt: &impl AllocGlobal, image: &[u8; 16384]) -> Result<SimBoard, Fail>
+fn board_over(rt: &impl AllocGlobal, image: &[u8]) -> Result<SimBoard, Fail>
     ensures { IfOk result (λ b. IsFresh (sim_trace b)) }
 {
+    if image.len() != 16384 {
+        return Err(Fail::from("a memory of another size"));
+    }
     Ok(SimBoard::new(rt.alloc(), image, 100, 10000)?)
 }
 
-// What `init` answers to a text on a memory with this image, where it must put this output; and the image
-// that it leaves.
+// What `init` answers to a text on a memory with this image, where it must put this output; and its board.
 fn init_answers(
     rt: &(impl Abort + AllocGlobal),
     text: &[u8],
-    image: &[u8; 16384],
+    image: &[u8],
     output: &[u8],
-) -> Result<(Status, [u8; 16384]), Fail> {
+) -> Result<(Status, SimBoard), Fail> {
     let mut board = board_over(rt, image)?;
     let mut source = SliceSource::new(text, 64);
     let status = meter(rt.alloc(), &INIT, &mut source, &mut board);
     assert!(rt; board.output().eq(output.iter().copied()));
-    let mut left = ZEROS;
-    for (to, from) in left.iter_mut().zip(board.image()) {
-        *to = *from;
-    }
-    Ok((status, left))
+    Ok((status, board))
 }
 
 // What `show` answers on a memory with this image, where it must put this output.
 fn show_answers(
     rt: &(impl Abort + AllocGlobal),
-    image: &[u8; 16384],
-    output: &str,
+    image: &[u8],
+    output: &[u8],
 ) -> Result<Status, Fail> {
     let mut board = board_over(rt, image)?;
     let mut source = SliceSource::new(b"", 1);
     let status = meter(rt.alloc(), &SHOW, &mut source, &mut board);
-    assert!(rt; board.output().eq(output.bytes()));
+    assert!(rt; board.output().eq(output.iter().copied()));
     Ok(status)
 }
 
-// The memory of the default configuration, as `init` leaves it.
-fn formatted(rt: &(impl Abort + AllocGlobal)) -> Result<[u8; 16384], Fail> {
-    let (status, image) = init_answers(rt, DEFAULT.as_bytes(), &ZEROS, b"init 12345678\n")?;
+// A board with the memory of the default configuration, as `init` leaves it.
+fn formatted(rt: &(impl Abort + AllocGlobal)) -> Result<SimBoard, Fail> {
+    let empty = board(rt)?;
+    let (status, board) = init_answers(rt, DEFAULT.as_bytes(), empty.image(), b"init 12345678\n")?;
     assert_eq!(rt; status, Status::Done);
-    Ok(image)
+    Ok(board)
 }
+
+// The header of the default configuration up to its last byte that isn't 0.
+const HEADER: [u8; 24] = [
+    0xa5, 0x01, 0x4e, 0x61, 0xbc, 0x00, 0x41, 0x42, 0x43, 0x01, 0x01, 0x01, 0x40, 0x06, 0xf4, 0x01,
+    0x0a, 0x00, 0x00, 0x02, 0x01, 0x00, 0x4c, 0x22,
+];
 
 #[test]
 fn a_memory_is_formatted_once(rt: HostRuntime) -> Result<(), Fail> {
-    let image = formatted(&rt)?;
-    assert_eq!(&rt;
-        image[..24],
-        [
-            0xa5, 0x01, 0x4e, 0x61, 0xbc, 0x00, 0x41, 0x42, 0x43, 0x01, 0x01, 0x01, 0x40, 0x06,
-            0xf4, 0x01, 0x0a, 0x00, 0x00, 0x02, 0x01, 0x00, 0x4c, 0x22
-        ][..]
-    );
-    assert_eq!(&rt; image[256], 0);
-    let (again, same) = init_answers(&rt, DEFAULT.as_bytes(), &image, b"")?;
+    let board = formatted(&rt)?;
+    assert!(&rt; board.image().starts_with(&HEADER));
+    assert_eq!(&rt; board.image().get(256), Some(&0));
+    let (again, same) = init_answers(&rt, DEFAULT.as_bytes(), board.image(), b"")?;
     assert_eq!(&rt; again, Status::Formatted);
-    assert!(&rt; same == image);
+    assert!(&rt; same.image() == board.image());
+    Ok(())
+}
+
+// The text is refused with this fault, and the memory stays as it was.
+fn refused(rt: &(impl Abort + AllocGlobal), text: &[u8], fault: ConfigFault) -> Result<(), Fail> {
+    let empty = board(rt)?;
+    let (status, left) = init_answers(rt, text, empty.image(), b"")?;
+    assert_eq!(rt; status, Status::Config { fault });
+    assert!(rt; left.image() == empty.image());
     Ok(())
 }
 
@@ -303,47 +309,45 @@ fn a_memory_is_formatted_once(rt: HostRuntime) -> Result<(), Fail> {
 fn texts_are_refused(rt: HostRuntime) -> Result<(), Fail> {
     let address = DEFAULT.replace(rt.alloc(), "\"address\":1", "\"address\":251")?;
     let another = DEFAULT.replace(rt.alloc(), "}", ",\"zone\":1}")?;
-    for (text, fault) in [
-        (b"[]".as_slice(), ConfigFault::NotObject),
-        (b"{}".as_slice(), ConfigFault::Missing { key: 0 }),
-        (address.as_bytes(), ConfigFault::Wrong { key: 3 }),
-        (another.as_bytes(), ConfigFault::Unknown { place: 12 }),
-        ([b' '; 4097].as_slice(), ConfigFault::TooLong),
-        ([b' '; 4096].as_slice(), ConfigFault::Text),
-    ] {
-        let (status, image) = init_answers(&rt, text, &ZEROS, b"")?;
-        assert_eq!(&rt; status, Status::Config { fault });
-        assert!(&rt; image == ZEROS);
-    }
-    Ok(())
+    refused(&rt, b"[]", ConfigFault::NotObject)?;
+    refused(&rt, b"{}", ConfigFault::Missing { key: 0 })?;
+    refused(&rt, address.as_bytes(), ConfigFault::Wrong { key: 3 })?;
+    refused(&rt, another.as_bytes(), ConfigFault::Unknown { place: 12 })?;
+    refused(&rt, &[b' '; 4097], ConfigFault::TooLong)?;
+    refused(&rt, &[b' '; 4096], ConfigFault::Text)
 }
 
 #[test]
 fn a_memory_is_shown(rt: HostRuntime) -> Result<(), Fail> {
-    let mut image = formatted(&rt)?;
+    let mut board = formatted(&rt)?;
     assert_eq!(&rt;
         show_answers(
             &rt,
-            &image,
-            "serial 12345678\nday 2024-01-15\nseq 0\nvolume 000000.00 m3\nenergy 00000000 kWh\nregister 0 0 0\nfaulty 0\nset -\n"
+            board.image(),
+            b"serial 12345678\nday 2024-01-15\nseq 0\nvolume 000000.00 m3\nenergy 00000000 kWh\nregister 0 0 0\nfaulty 0\nset -\n"
         )?,
         Status::Done
     );
+    assert_eq!(&rt; board.store(520, &[0xff, 0xff]), Ok(()));
     assert_eq!(&rt;
-        show_answers(&rt, &ZEROS, "")?,
+        show_answers(&rt, board.image(), b"")?,
+        Status::Foreign { at: 520 }
+    );
+    assert_eq!(&rt; board.store(11, &[2]), Ok(()));
+    assert_eq!(&rt;
+        show_answers(&rt, board.image(), b"")?,
+        Status::Foreign { at: 11 }
+    );
+    assert_eq!(&rt; board.store(0, &[0]), Ok(()));
+    assert_eq!(&rt;
+        show_answers(&rt, board.image(), b"")?,
         Status::Unformatted { byte: 0 }
     );
-    image[520] = 0xff;
-    image[521] = 0xff;
-    assert_eq!(&rt; show_answers(&rt, &image, "")?, Status::Foreign { at: 520 });
-    image[11] = 2;
-    assert_eq!(&rt; show_answers(&rt, &image, "")?, Status::Foreign { at: 11 });
     Ok(())
 }
 
-// 360 pulses of 10 litres, and an energy below -2 kWh, which a display of eight digits shows as 10^8 - 3.
-#[test]
-fn entries_are_shown(rt: HostRuntime) -> Result<(), Fail> {
+// After 360 pulses of 10 litres and an energy below -2 kWh, which a display of eight digits shows as 10^8 - 3.
+fn counted() -> Result<MeterRecord, Fail> {
     let step = Step {
         e_mj: -7_200_000_001,
         b_mj: 54_321,
@@ -354,59 +358,70 @@ fn entries_are_shown(rt: HostRuntime) -> Result<(), Fail> {
     m.faulty = 2;
     m.seq = 7;
     m.move_to(day_of(2025, 2, 3).ok_or("no date")?, 1)?;
-    let mut before = board_over(&rt, &ZEROS)?;
-    format(&mut before, &Config::standard(), &m)?;
-    let mut image = ZEROS;
-    for (to, from) in image.iter_mut().zip(before.image()) {
-        *to = *from;
-    }
+    Ok(m)
+}
+
+#[test]
+fn entries_are_shown(rt: HostRuntime) -> Result<(), Fail> {
+    let mut board = SimBoard::new(rt.alloc(), &[0u8; 16384], 100, 10000)?;
+    format(&mut board, &Config::standard(), &counted()?)?;
     assert_eq!(&rt;
         show_answers(
             &rt,
-            &image,
-            "serial 12345678\nday 2025-02-03\nseq 7\nvolume 000003.60 m3\nenergy 99999997 kWh\nregister 3600 -7200000001 54321\nfaulty 2\nset 2025-01-01 3600 -7200000001 54321\nmonth 2024-12-01 3600 -7200000001 54321\nmonth 2025-01-01 3600 -7200000001 54321\nmonth 2025-02-01 3600 -7200000001 54321\n"
+            board.image(),
+            b"serial 12345678\nday 2025-02-03\nseq 7\nvolume 000003.60 m3\nenergy 99999997 kWh\nregister 3600 -7200000001 54321\nfaulty 2\nset 2025-01-01 3600 -7200000001 54321\nmonth 2024-12-01 3600 -7200000001 54321\nmonth 2025-01-01 3600 -7200000001 54321\nmonth 2025-02-01 3600 -7200000001 54321\n"
         )?,
         Status::Done
     );
     Ok(())
 }
 
+// What a command answers on this board where the call of this kind and number fails.
+fn fails(
+    rt: &impl AllocGlobal,
+    words: &[&str],
+    image: &[u8],
+    kind: CallKind,
+    number: u32,
+) -> Result<Status, Fail> {
+    let mut board = board_over(rt, image)?;
+    let mut source = SliceSource::new(DEFAULT.as_bytes(), 64);
+    board.fail_on(kind, number);
+    Ok(meter(rt.alloc(), words, &mut source, &mut board))
+}
+
 #[test]
 fn faults_of_the_memory_are_told(rt: HostRuntime) -> Result<(), Fail> {
-    let image = formatted(&rt)?;
+    let empty = board(&rt)?;
     for (kind, status) in [
         (CallKind::Load, Status::Memory),
         (CallKind::Store, Status::Memory),
         (CallKind::Sync, Status::Memory),
         (CallKind::Put, Status::Write),
     ] {
-        let mut failing = board_over(&rt, &ZEROS)?;
-        let mut source = SliceSource::new(DEFAULT.as_bytes(), 64);
-        assert!(&rt; failing.fail_on(kind, 1));
-        assert_eq!(&rt; meter(rt.alloc(), &INIT, &mut source, &mut failing), status);
+        assert_eq!(&rt; fails(&rt, &INIT, empty.image(), kind, 1)?, status);
     }
-    let mut untouched = board_over(&rt, &ZEROS)?;
+    let full = formatted(&rt)?;
+    assert_eq!(&rt;
+        fails(&rt, &SHOW, full.image(), CallKind::Load, 3)?,
+        Status::Memory
+    );
+    assert_eq!(&rt;
+        fails(&rt, &SHOW, full.image(), CallKind::Put, 2)?,
+        Status::Write
+    );
+    Ok(())
+}
+
+#[test]
+fn a_fault_of_the_text_is_told(rt: HostRuntime) -> Result<(), Fail> {
+    let mut untouched = board(&rt)?;
     let mut source = SliceSource::new(DEFAULT.as_bytes(), 64);
     assert!(&rt; source.fail_on(2));
     assert_eq!(&rt;
         meter(rt.alloc(), &INIT, &mut source, &mut untouched),
         Status::Read
     );
-    for (kind, number, status, output) in [
-        (CallKind::Load, 3, Status::Memory, b"".as_slice()),
-        (
-            CallKind::Put,
-            2,
-            Status::Write,
-            b"serial 12345678\nday 202".as_slice(),
-        ),
-    ] {
-        let mut failing = board_over(&rt, &image)?;
-        let mut source = SliceSource::new(b"", 1);
-        assert!(&rt; failing.fail_on(kind, number));
-        assert_eq!(&rt; meter(rt.alloc(), &SHOW, &mut source, &mut failing), status);
-        assert!(&rt; failing.output().eq(output.iter().copied()));
-    }
     Ok(())
 }
 
