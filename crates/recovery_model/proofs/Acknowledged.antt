@@ -1,12 +1,12 @@
 -- No output line shows more events than were kept.
-use Rattle.std.proofs.Common.{◌≡◌, ℕ, ◌+◌, ◌^◌, ◌≤◌, ◌<◌, List, [], ◌∷◌, ◌++◌, length, Some, sym, ap, ◌∙◌, subst, arith, length-append}
-use Rattle.metering_model.specs.Events.{Event, Kept}
+use Rattle.std.proofs.Common.{◌≡◌, ℕ, ◌+◌, ◌^◌, ◌≤◌, ◌<◌, List, [], ◌∷◌, length, Some, sym, ap, ◌∙◌, arith, length-append}
+use Rattle.metering_model.specs.Events.{Kept}
 use Rattle.metering_model.specs.Settings.{Settings}
 use Rattle.metering_model.specs.Records.{MeterRecord, record_after}
 use Rattle.trace_model.specs.Output.{OutputLine}
 use Rattle.script_model.specs.Grammar.{Line, Metering}
 use Rattle.journal_model.specs.Texts.{ok_text}
-use Rattle.journal_model.specs.Pairing.{Answers, Pairs, Replies}
+use Rattle.journal_model.specs.Pairing.{Pairs, Replies}
 use Rattle.journal_model.proofs.Pairs.{pairs-grow}
 use Rattle.recovery_model.specs.Shown.{ShowAtMost, number_shown}
 use Rattle.recovery_model.proofs.Shown.{number_shown-ok_text}

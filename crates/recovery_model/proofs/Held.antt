@@ -1,7 +1,6 @@
 -- A record that a memory holds has few events and months.
-use Rattle.std.proofs.Common.{◌≡◌, ℕ, zero, suc, ◌+◌, ◌≤◌, ◌==◌, ◌&&◌, Bool, true, false, nat_le, List, [], ◌∷◌, ◌++◌, length, Option, None, Some, Result, Ok, Err, refl, sym, ap, ◌∙◌, subst, arith}
+use Rattle.std.proofs.Common.{◌≡◌, ℕ, zero, suc, ◌≤◌, ◌==◌, Bool, true, false, nat_le, List, [], ◌∷◌, length, Option, None, Some, Result, Ok, Err, refl, ap, subst, arith}
 use Rattle.std.specs.Prelude.{if◌then◌else◌, slice_index, slice_get}
-use Rattle.std.specs.List.{range_with_len}
 use Rattle.std.proofs.lemmas.Bool.{leb-true}
 use Rattle.std.proofs.lemmas.List.FromFn.{length-map-range_with_len}
 use Rattle.config_model.specs.Configuration.{Configuration, is_sensor}
@@ -9,7 +8,7 @@ use Rattle.metering_model.specs.Records.{MeterRecord}
 use Rattle.memory_model.specs.Fields.{Field, first_broken, part, unless_broken, value}
 use Rattle.memory_model.specs.Header.{configuration_of, header_fields, header_in, sensor_field}
 use Rattle.memory_model.specs.Slot.{month_count_field, month_entry, months_of, record_fields, record_in, record_of, seq_field}
-use Rattle.memory_model.specs.Stored.{Side, Stored, Unformatted, Foreign, Holds, chosen, mark, slot_at, stored, stored_from, with_header, with_record}
+use Rattle.memory_model.specs.Stored.{Side, Unformatted, Holds, chosen, mark, slot_at, stored, with_header, with_record}
 
 -- a record of a memory
 pub record IsHeld (r : MeterRecord) : Type 0 where

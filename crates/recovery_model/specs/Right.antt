@@ -6,7 +6,7 @@ use Rattle.metering_model.specs.Records.{MeterRecord, StandsFor, record_after}
 use Rattle.metering_model.specs.Integral.{AllFitWithMargin}
 use Rattle.script_model.specs.Grammar.{Metering, line_of}
 use Rattle.trace_model.specs.Trace.{Trace, Start, ◌▷◌}
-use Rattle.trace_model.specs.Output.{OutputLine, bytes_put, is_output_line, output_lines}
+use Rattle.trace_model.specs.Output.{bytes_put, is_output_line, output_lines}
 use Rattle.trace_model.specs.Moments.{Leaves}
 use Rattle.config_model.specs.Configuration.{Configuration}
 use Rattle.memory_model.specs.Stored.{Side, Holds, stored}

@@ -1,5 +1,5 @@
 -- What metering needs of a configuration.
-use Rattle.std.specs.Prelude.{ℕ, ◌*◌}
+use Rattle.std.specs.Prelude.{◌*◌}
 use Rattle.platinum_model.specs.Element.{nominal}
 use Rattle.metering_model.specs.Settings.{Settings}
 use Rattle.config_model.specs.Configuration.{Configuration}

@@ -1,10 +1,9 @@
 -- The energy of the record that a memory holds is bounded.
-use Rattle.std.proofs.Common.{◌≡◌, ◌⊎◌, inl, inr, ℕ, ◌+◌, ◌*◌, ◌≤◌, pos, ◌+ℤ◌, ◌-ℤ◌, List, ◌∷◌, [], ◌++◌, length, true, refl, sym, ap, ◌∙◌, subst, arith}
+use Rattle.std.proofs.Common.{◌≡◌, ◌⊎◌, inl, inr, ℕ, ◌+◌, ◌*◌, pos, ◌+ℤ◌, ◌-ℤ◌, List, ◌∷◌, [], ◌++◌, length, true, sym, ap, subst, arith}
 use Rattle.std.proofs.lemmas.Int.{ints}
-use Rattle.std.specs.Prelude.{IsTrue, ◌==◌, ◌||◌}
+use Rattle.std.specs.Prelude.{IsTrue}
 use Rattle.std.proofs.lemmas.Bool.Decides.{nat_tests}
 use Rattle.metering_model.specs.Events.{Kept}
-use Rattle.metering_model.specs.Settings.{Settings}
 use Rattle.metering_model.specs.Records.{MeterRecord, StandsFor, bound_in, energy_in}
 use Rattle.metering_model.specs.Integral.{AllFit, AllFitWithMargin, IsChoice, IsNear, Temps, counted_litres, exact_integral}
 use Rattle.metering_model.proofs.Bounded.{HasNarrowCells, all_bounded, all_finer, narrow-steep}

@@ -1,41 +1,39 @@
 -- What the memory holds at each moment of a run.
-use Rattle.std.proofs.Common.{◌≡◌, ◌⊎◌, inl, inr, ℕ, cond, ◌+◌, ◌^◌, ◌≤◌, ◌<◌, true, false, List, [], ◌∷◌, ◌++◌, length, take, Some, refl, sym, ap, ◌∙◌, subst, arith, length-append}
-use Rattle.std.specs.Prelude.{All, IsTrue, count_by}
+use Rattle.std.proofs.Common.{◌≡◌, ◌⊎◌, inl, inr, ℕ, cond, ◌+◌, ◌^◌, ◌<◌, true, false, List, [], ◌∷◌, ◌++◌, length, refl, sym, ap, ◌∙◌, subst, arith, length-append}
+use Rattle.std.specs.Prelude.{All, count_by}
 use Rattle.std.specs.List.{list_all}
 use Rattle.std.proofs.lemmas.Bool.{both_ways}
 use Rattle.std.proofs.lemmas.List.Elements.{All-cons, All-head, All-tail}
 use Rattle.std.proofs.lemmas.List.Sums.{sum_by-append}
 use Rattle.metering_model.specs.Events.{Event, Kept}
-use Rattle.metering_model.specs.Settings.{Settings}
-use Rattle.metering_model.specs.Records.{MeterRecord, StandsFor, record_after}
+use Rattle.metering_model.specs.Records.{MeterRecord, StandsFor}
 use Rattle.metering_model.specs.Integral.{AllFitWithMargin}
 use Rattle.script_model.specs.Lines.{lines_of}
 use Rattle.script_model.specs.Grammar.{Metering}
-use Rattle.trace_model.specs.Trace.{Entry, Store, Sync, Missed, Put, Arm, Cut, Trace, Start, ◌▷◌}
+use Rattle.trace_model.specs.Trace.{Entry, Store, Sync, Missed, Put, Arm, Cut, Trace, ◌▷◌}
 use Rattle.trace_model.specs.Images.{IsImage, NothingPending}
 use Rattle.trace_model.specs.Output.{OutputLine, ends_line, is_output_line, output_lines, open_segment}
-use Rattle.trace_model.specs.Moments.{Grew, IsPrefix, Leaves}
+use Rattle.trace_model.specs.Moments.{IsPrefix, Leaves}
 use Rattle.trace_model.proofs.Images.{before_put, one_image}
 use Rattle.trace_model.proofs.Lines.{open_segment-piece, output_lines-piece}
 use Rattle.trace_model.proofs.Moments.{Grew-prefix, Grew-weaker, IsPrefix-self}
 use Rattle.config_model.specs.Configuration.{Configuration}
-use Rattle.memory_model.specs.Stored.{Side, Holds, stored}
-use Rattle.journal_model.specs.Faults.{fault_of}
+use Rattle.memory_model.specs.Stored.{Side, Holds}
 use Rattle.journal_model.specs.Texts.{ok_text}
 use Rattle.journal_model.specs.Pairing.{Pairs, may_stand}
 use Rattle.recovery_model.specs.Settings.{settings_for}
 use Rattle.recovery_model.specs.Shown.{number_shown}
-use Rattle.recovery_model.specs.Right.{HeldBefore, HoldsKept, HoldsShown, IsRight, NextIsEvent, StandsForNext}
+use Rattle.recovery_model.specs.Right.{HeldBefore, HoldsKept, IsRight, NextIsEvent, StandsForNext}
 use Rattle.recovery_model.proofs.Acknowledged.{show_at_most}
 use Rattle.recovery_model.proofs.Shown.{number_shown-ok_text}
 use Rattle.register_store.specs.Commits as commits
 use Rattle.register_store.specs.Commits.{HoldsEither, other}
 use Rattle.register_store.specs.Works.{is_store, is_sync, is_forced_cut, is_other}
 use Rattle.register_store.proofs.MemoryAlone.{MemoryAlone, FrontAlone, MemoryStretch, front_counts, memory_alone, no_line, with_entries}
-use Rattle.run_engine.specs.Run.{IsFrugal, IsSound}
+use Rattle.run_engine.specs.Run.{IsSound}
 use Rattle.run_engine.specs.Steps.{Commits, Committed}
 use Rattle.run_engine.specs.Takes.{TakesLine}
-use Rattle.run_engine.proofs.Runs.{Going, Reached, line_at, next_fits, next_kept, next_stands, next_taken}
+use Rattle.run_engine.proofs.Runs.{Going, Reached, line_at, next_fits, next_stands, next_taken}
 
 -- ---- the entries of a stretch
 
@@ -81,7 +79,7 @@ module _ (c : Configuration) (o : MeterRecord) (script : List ℕ) where
   -- ---- what is right at a moment p
 
   module _ (p : Trace) (image : List ℕ) (kept : List Kept) (held : MeterRecord) (side : Side) (pairs : Pairs (settings_for c) o 0 [] (lines_of script) (output_lines p) kept) (fits : AllFitWithMargin (settings_for c) o kept) (small : held.seq < 10 ^ 64)
-    (holds : commits.StandsFor (Holds c held side) image) where
+      (holds : commits.StandsFor (Holds c held side) image) where
     pub kept_right : StandsFor (settings_for c) o kept held → IsRight c o (lines_of script) p image
     kept_right stands =
         let counted : held.seq ≡ o.seq + length kept = ap (λ (m : MeterRecord). m.seq) stands.is in
@@ -128,7 +126,7 @@ module _ (c : Configuration) (o : MeterRecord) (script : List ℕ) where
   -- ---- one event
 
   module _ (rest : List ℕ) (n : ℕ) (r : MeterRecord) (side : Side) (reads : List ℕ) (t : Trace) (line after : List ℕ) (new : MeterRecord) (b : Between rest n r side reads t) (first : lines_of rest ≡ line ∷ lines_of after) (takes : TakesLine (settings_for c) n r line new)
-    (old_small : r.seq < 10 ^ 64) (small : new.seq < 10 ^ 64) where
+      (old_small : r.seq < 10 ^ 64) (small : new.seq < 10 ^ 64) where
     abbrev pub g : Going (settings_for c) o script rest n r t
     g = b.going
 

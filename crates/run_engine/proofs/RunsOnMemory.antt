@@ -3,25 +3,22 @@ use Rattle.std.proofs.Common.{◌≡◌, ◌⊎◌, inl, inr, ℕ, ◌+◌, ◌^
 use Rattle.std.specs.Prelude.{All, count_by, IsTrue}
 use Rattle.std.specs.List.{list_all}
 use Rattle.std.proofs.lemmas.List.Sums.{sum_by-append}
-use Rattle.metering_model.specs.Events.{Event, Kept}
-use Rattle.metering_model.specs.Settings.{Settings}
+use Rattle.metering_model.specs.Events.{Event}
 use Rattle.metering_model.specs.Records.{MeterRecord}
 use Rattle.script_model.specs.Lines.{lines_of}
 use Rattle.script_model.specs.Grammar.{Metering}
 use Rattle.trace_model.specs.Trace.{Entry, Put, Cut, Trace, Start, ◌▷◌, IsFresh, base_of}
-use Rattle.trace_model.specs.Images.{IsImage, NothingPending}
+use Rattle.trace_model.specs.Images.{IsImage}
 use Rattle.trace_model.specs.Output.{OutputLine, ends_line, output_lines, open_segment}
-use Rattle.trace_model.specs.Moments.{IsPrefix, Leaves}
+use Rattle.trace_model.specs.Moments.{IsPrefix}
 use Rattle.trace_model.proofs.Images.{one_image}
-use Rattle.trace_model.proofs.Moments.{IsPrefix-self}
 use Rattle.config_model.specs.Configuration.{Configuration}
-use Rattle.memory_model.specs.Stored.{Side, Holds, stored}
+use Rattle.memory_model.specs.Stored.{Side, Holds}
 use Rattle.journal_model.specs.Faults.{fault_of}
 use Rattle.journal_model.specs.Texts.{ok_text}
 use Rattle.journal_model.specs.Pairing.{Pairs, may_stand}
 use Rattle.journal_model.proofs.Texts.{IsPrintable}
 use Rattle.recovery_model.specs.Settings.{settings_for}
-use Rattle.recovery_model.specs.Right.{HeldBefore, HoldsKept, HoldsShown, IsRight, StandsForNext}
 use Rattle.meter_board.specs.Puts.{PutsFront}
 use Rattle.event_script.specs.declared.LineFault.{LineFault}
 use Rattle.event_script.specs.Views.{fault_view}
@@ -32,8 +29,8 @@ use Rattle.register_store.specs.Recovered.{side_view}
 use Rattle.register_store.specs.Works.{is_forced_cut, is_other}
 use Rattle.run_engine.specs.declared.Ended.{Ended}
 use Rattle.run_engine.specs.declared.Ended.TheVariants.{Done, Line, Memory, Read, Write, Unformatted, Foreign, OutOfMemory, Cut as WasCut}
-use Rattle.run_engine.specs.Ran.{Ran, StopsAtCut, StopsInEvent}
-use Rattle.run_engine.specs.Run.{EndsHeld, IsSound, RanOnMemory}
+use Rattle.run_engine.specs.Ran.{StopsAtCut, StopsInEvent}
+use Rattle.run_engine.specs.Run.{IsSound, RanOnMemory}
 use Rattle.run_engine.specs.Steps.{Commits, Committed, StepGives}
 use Rattle.run_engine.specs.Takes.{TakesLine}
 use Rattle.run_engine.proofs.Nothing.{stands_nothing}
@@ -88,7 +85,7 @@ module _ (c : Configuration) (o : MeterRecord) (script : List ℕ) where
           let at = reached c o script rest n r side reads t line after new b first takes old_small small u commit in
           let es = (stretch c o script rest n r side reads t line after new b first takes old_small small 0 u commit).entries in
           let stopped = subst (λ (outputs : List OutputLine). StopsInEvent (settings_for c) o (lines_of script) b.going.kept (length outputs) (open_segment u)) (sym at.outputs)
-              (subst (StopsInEvent (settings_for c) o (lines_of script) b.going.kept (length (output_lines t))) (sym at.segment) (stops es at.allowed)) in
+          (subst (StopsInEvent (settings_for c) o (lines_of script) b.going.kept (length (output_lines t))) (sym at.segment) (stops es at.allowed)) in
           record {
             ran = ran_to (settings_for c) o script b.going.kept u Memory (same_pairs u at.outputs) b.going.fits (inr stopped);
             sound = sound_to 0 u commit;
@@ -146,7 +143,7 @@ module _ (c : Configuration) (o : MeterRecord) (script : List ℕ) where
 -- ---- what a step of the board gives
 
 module _ (c : Configuration) (o : MeterRecord) (script rest : List ℕ) (n : ℕ) (r : MeterRecord) (side : Side) (reads : List ℕ) (t : Trace) (line after : List ℕ) (new : MeterRecord) (text : List ℕ) (b : Between c o script rest n r side reads t) (first : lines_of rest ≡ line ∷ lines_of after)
-  (takes : TakesLine (settings_for c) n r line new) (old_small : r.seq < 10 ^ 64) (small : new.seq < 10 ^ 64) (is : text ≡ ok_text (settings_for c) new) where
+    (takes : TakesLine (settings_for c) n r line new) (old_small : r.seq < 10 ^ 64) (small : new.seq < 10 ^ 64) (is : text ≡ ok_text (settings_for c) new) where
   pub step_ends : (t' : Trace) (reads' : List ℕ) (ended : Ended) → IsPrintable (settings_for c) new → StepGives c side r new text t (Err ended) t' reads' → RanOnMemory c o script t' ended
   step_ends t' reads' Memory printable gives = memory_failed c o script rest n r side reads t b line after new first takes old_small small t' gives
   step_ends t' reads' WasCut printable gives = power_cut c o script rest n r side reads t b line after new first takes old_small small t' reads' gives.0 gives.1

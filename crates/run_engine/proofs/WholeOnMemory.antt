@@ -1,9 +1,9 @@
 -- What a run over a memory did with the front of a script that was read is right for the whole; and a run that answered no line.
-use Rattle.std.proofs.Common.{◌≡◌, ◌⊎◌, inl, inr, ℕ, ◌+◌, ◌^◌, ◌≤◌, ◌<◌, List, [], ◌∷◌, ◌++◌, length, refl, sym, ap, ◌∙◌, subst, arith}
+use Rattle.std.proofs.Common.{◌≡◌, ◌⊎◌, inl, inr, ℕ, ◌≤◌, List, [], ◌++◌, length, refl, sym, ap, subst, arith}
 use Rattle.metering_model.specs.Events.{Kept}
 use Rattle.metering_model.specs.Records.{MeterRecord, StandsFor}
 use Rattle.script_model.specs.Lines.{lines_of}
-use Rattle.trace_model.specs.Trace.{Trace, Start, ◌▷◌, IsFresh, base_of}
+use Rattle.trace_model.specs.Trace.{Trace, Start, ◌▷◌, IsFresh}
 use Rattle.trace_model.specs.Images.{IsImage}
 use Rattle.trace_model.specs.Output.{open_segment, output_lines}
 use Rattle.trace_model.specs.Moments.{Leaves}

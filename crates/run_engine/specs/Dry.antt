@@ -1,5 +1,4 @@
 -- The meter of a run without a memory.
-use Rattle.std.specs.Prelude.{ℕ}
 use Rattle.platinum_model.specs.Element.{nominal}
 use Rattle.heat_model.specs.Heat.{Return}
 use Rattle.metering_model.specs.Settings.{Settings}

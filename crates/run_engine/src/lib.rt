@@ -8,10 +8,10 @@ mod script;
 mod text;
 mod without_memory;
 
+use event_script::LineFault;
 pub use laws::{held_energy_is_bounded, histories_join};
 pub use on_memory::run;
 pub use without_memory::dry;
-use event_script::LineFault;
 
 /// How a command that takes a script ended.
 #[derive(Clone, Copy, Debug, PartialEq, Eq)]

@@ -1,8 +1,8 @@
-use Rattle.std.proofs.Common.{◌≡◌, ◌<◌, ◌++◌, ◌∙◌, [], List, ℕ, length, Err, ap, arith, subst, sym}
+use Rattle.std.proofs.Common.{◌≡◌, ◌<◌, ◌++◌, ◌∙◌, [], length, Err, ap, arith, subst, sym}
 use Rattle.memory_model.specs.Stored.{Holds, stored}
 use Rattle.recovery_model.specs.Settings.{settings_for}
 use Rattle.recovery_model.proofs.Held.{held_record}
-use Rattle.trace_model.specs.Trace.{IsFresh, base_of}
+use Rattle.trace_model.specs.Trace.{base_of}
 use Rattle.trace_model.proofs.Images.{fresh_image}
 use Rattle.billing_memory.specs.Records.{record_view}
 use Rattle.meter_config.specs.Views.{config_view}

@@ -1,4 +1,4 @@
-use Rattle.std.proofs.Common.{◌≡◌, ◌<◌, ◌++◌, [], List, ℕ, length, subst, sym}
+use Rattle.std.proofs.Common.{◌≡◌, ◌<◌, ◌++◌, [], length, subst, sym}
 use Rattle.run_engine.specs.Dry.{dry_opening, dry_settings}
 use Rattle.run_engine.specs.Ran.{AnswersLines, Ran}
 use Rattle.run_engine.proofs.Complete.{completes}
