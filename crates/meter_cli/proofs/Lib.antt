@@ -1,4 +1,6 @@
+pub mod Benches
 pub mod Decimals
+pub mod Events
 pub mod Inits
 pub mod Keys
 pub mod Lines

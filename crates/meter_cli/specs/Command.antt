@@ -1,5 +1,5 @@
 -- The words of the command line.
-use Rattle.std.specs.Prelude.{◌≡◌, ◌≤◌, ◌+◌, ◌-◌, ℕ, Bool, List, [], ◌∷◌, cond, nat_eq, nat_le, codes, map, Option, Some, None, Result, Ok, Err, MatchResult}
+use Rattle.std.specs.Prelude.{◌≡◌, ◌≤◌, ◌<◌, ◌+◌, ◌-◌, ℕ, Bool, List, [], ◌∷◌, cond, nat_eq, nat_le, codes, map, Option, Some, None, Result, Ok, Err, MatchResult}
 use Rattle.std.specs.Cmp.Lexicographic.{pointwise}
 use Rattle.std.specs.Borrow.{Bor}
 use Rattle.script_model.specs.Numbers.{number_in}
@@ -9,7 +9,7 @@ use Rattle.pt_curve.specs.declared.sensor.Sensor.TheVariants.{Pt100, Pt500, Pt10
 use Rattle.sensor_pair.specs.declared.place.Place.{Place}
 use Rattle.sensor_pair.specs.declared.place.Place.TheVariants.{Flow, Return}
 use Rattle.meter_cli.specs.declared.job.Job.{Job}
-use Rattle.meter_cli.specs.declared.job.Job.TheVariants.{Init, Run, Dry, Show, Temp, Water, Coef}
+use Rattle.meter_cli.specs.declared.job.Job.TheVariants.{Init, Run, Dry, Show, Temp, Water, Coef, BenchCalc, BenchPair, BenchFlow, Gen}
 use Rattle.meter_cli.specs.declared.job.Usage.{Usage}
 
 -- the word is this text
@@ -45,10 +45,39 @@ abbrev pub coef_words : List (List ℕ) → Result Job ℕ
 coef_words words =
     word_at 1 place_of words >>= λ place. word_at 2 (number_in 1100 4000) place.1 >>= λ p. word_at 3 (number_in 0 180000000) p.1 >>= λ tf. word_at 4 (return_in tf.0) tf.1 >>= λ tr. end_at 5 (Coef place.0 p.0 tf.0 tr.0) tr.1
 
+-- `bench calc SENSOR PLACE P DMIN RF RR LITRES ENERGY`: a least difference of 1 to 180,000,000 microdegrees, 1 to 10^9 litres,
+-- and at most 10^18 mJ
+abbrev pub calc_words : List (List ℕ) → Result Job ℕ
+calc_words words =
+    word_at 2 sensor_of words >>= λ sensor. word_at 3 place_of sensor.1 >>= λ place. word_at 4 (number_in 1100 4000) place.1 >>= λ p. word_at 5 (number_in 1 180000000) p.1 >>= λ dmin. word_at 6 (number_in 0 max_sample) dmin.1 >>= λ rf. word_at 7 (number_in 0 max_sample) rf.1 >>= λ rr. word_at 8 (number_in 1 1000000000) rr.1 >>= λ litres. word_at 9 (number_in 0 1000000000000000000) litres.1 >>= λ energy. end_at 10 (BenchCalc sensor.0 place.0 p.0 dmin.0 rf.0 rr.0 litres.0 energy.0) energy.1
+
+-- the true temperature in the return, below that in the flow
+abbrev pub colder_in : ℕ → List ℕ → Option ℕ
+colder_in tf word = cond (nat_le 1 tf) (number_in 0 (tf - 1) word) None
+
+-- `bench pair SENSOR DMIN TF TR RF RR`
+abbrev pub pair_words : List (List ℕ) → Result Job ℕ
+pair_words words =
+    word_at 2 sensor_of words >>= λ sensor. word_at 3 (number_in 1 180000000) sensor.1 >>= λ dmin. word_at 4 (number_in 0 180000000) dmin.1 >>= λ tf. word_at 5 (colder_in tf.0) tf.1 >>= λ tr. word_at 6 (number_in 0 max_sample) tr.1 >>= λ rf. word_at 7 (number_in 0 max_sample) rf.1 >>= λ rr. end_at 8 (BenchPair sensor.0 dmin.0 tf.0 tr.0 rf.0 rr.0) rr.1
+
+-- `bench flow CLASS QP Q REF IND`: flows of 1 to 10^9 in one unit, and at most 10^12 millilitres
+abbrev pub flow_words : List (List ℕ) → Result Job ℕ
+flow_words words =
+    word_at 2 (number_in 1 3) words >>= λ class. word_at 3 (number_in 1 1000000000) class.1 >>= λ qp. word_at 4 (number_in 1 1000000000) qp.1 >>= λ q. word_at 5 (number_in 1 1000000000000) q.1 >>= λ reference. word_at 6 (number_in 0 1000000000000) reference.1 >>= λ indicated. end_at 7 (BenchFlow class.0 qp.0 q.0 reference.0 indicated.0) indicated.1
+
+-- the words after `bench`
+abbrev pub bench_words : List (List ℕ) → Result Job ℕ
+bench_words [] = Err 1
+bench_words (kind ∷ words) = cond (is_text (codes "calc") kind) (calc_words words) (cond (is_text (codes "pair") kind) (pair_words words) (cond (is_text (codes "flow") kind) (flow_words words) (Err 1)))
+
+-- `gen SEED COUNT`
+abbrev pub gen_words : List (List ℕ) → Result Job ℕ
+gen_words words = word_at 1 (number_in 0 18446744073709551615) words >>= λ seed. word_at 2 (number_in 1 1000000) seed.1 >>= λ count. end_at 3 (Gen seed.0 count.0) count.1
+
 -- the command that words say, or the place of the first wrong, missing or extra word, from 0
 abbrev pub command_of : List (List ℕ) → Result Job ℕ
 command_of [] = Err 0
-command_of (name ∷ words) = cond (is_text (codes "init") name) (end_at 1 Init words) (cond (is_text (codes "run") name) (end_at 1 Run words) (cond (is_text (codes "dry") name) (end_at 1 Dry words) (cond (is_text (codes "show") name) (end_at 1 Show words) (cond (is_text (codes "temp") name) (temp_words words) (cond (is_text (codes "water") name) (water_words words) (cond (is_text (codes "k") name) (coef_words words) (Err 0)))))))
+command_of (name ∷ words) = cond (is_text (codes "init") name) (end_at 1 Init words) (cond (is_text (codes "run") name) (end_at 1 Run words) (cond (is_text (codes "dry") name) (end_at 1 Dry words) (cond (is_text (codes "show") name) (end_at 1 Show words) (cond (is_text (codes "temp") name) (temp_words words) (cond (is_text (codes "water") name) (water_words words) (cond (is_text (codes "k") name) (coef_words words) (cond (is_text (codes "bench") name) (bench_words words) (cond (is_text (codes "gen") name) (gen_words words) (Err 0)))))))))
 
 -- the texts of the words
 abbrev pub texts : List (Bor (List ℕ)) → List (List ℕ)
@@ -57,6 +86,10 @@ texts words = map (λ w. w.now) words
 -- what was read is what the definition says, and so is the place of the first wrong word
 abbrev pub Says : Result Job Usage → Result Job ℕ → Type 0
 Says result said = MatchResult result (λ job. said ≡ Ok job) (λ e. said ≡ Err e.word)
+
+-- so it is with one word and those after it
+abbrev pub SaysWord : {A : Type 0} → Result (A × Bor (List (Bor (List ℕ)))) Usage → Result (A × List (List ℕ)) ℕ → Type 0
+SaysWord result said = MatchResult result (λ r. said ≡ Ok (r.0, texts r.1.now)) (λ e. said ≡ Err e.word)
 
 -- the numbers of a command are in their ranges
 abbrev pub IsInRange : Job → Type 0
@@ -67,6 +100,10 @@ IsInRange Show = Unit {0}
 IsInRange (Temp sensor r) = r ≤ 4294967295
 IsInRange (Water p t) = (1100 ≤ p) × (p ≤ 4000) × (t ≤ 180000000)
 IsInRange (Coef place p tf tr) = (1100 ≤ p) × (p ≤ 4000) × (tr + 10000 ≤ tf) × (tf ≤ 180000000)
+IsInRange (BenchCalc sensor place p dmin rf rr litres energy) = (1100 ≤ p) × (p ≤ 4000) × (1 ≤ dmin) × (dmin ≤ 180000000) × (1 ≤ litres) × (litres ≤ 1000000000) × (energy ≤ 1000000000000000000)
+IsInRange (BenchPair sensor dmin tf tr rf rr) = (1 ≤ dmin) × (dmin ≤ 180000000) × (tr < tf) × (tf ≤ 180000000)
+IsInRange (BenchFlow class qp q reference indicated) = (1 ≤ class) × (class ≤ 3) × (1 ≤ qp) × (qp ≤ 1000000000) × (1 ≤ q) × (q ≤ 1000000000) × (1 ≤ reference) × (reference ≤ 1000000000000) × (indicated ≤ 1000000000000)
+IsInRange (Gen seed count) = count ≤ 1000000
 
 -- a command that puts one line
 abbrev pub PutsOneLine : Job → Type 0
@@ -77,6 +114,10 @@ PutsOneLine Show = ⊥
 PutsOneLine (Temp sensor r) = Unit {0}
 PutsOneLine (Water p t) = Unit {0}
 PutsOneLine (Coef place p tf tr) = Unit {0}
+PutsOneLine (BenchCalc sensor place p dmin rf rr litres energy) = Unit {0}
+PutsOneLine (BenchPair sensor dmin tf tr rf rr) = Unit {0}
+PutsOneLine (BenchFlow class qp q reference indicated) = Unit {0}
+PutsOneLine (Gen seed count) = Unit {0}
 
 -- a command that reads nothing
 abbrev pub ReadsNothing : Job → Type 0
@@ -87,6 +128,10 @@ ReadsNothing Show = Unit {0}
 ReadsNothing (Temp sensor r) = Unit {0}
 ReadsNothing (Water p t) = Unit {0}
 ReadsNothing (Coef place p tf tr) = Unit {0}
+ReadsNothing (BenchCalc sensor place p dmin rf rr litres energy) = Unit {0}
+ReadsNothing (BenchPair sensor dmin tf tr rf rr) = Unit {0}
+ReadsNothing (BenchFlow class qp q reference indicated) = Unit {0}
+ReadsNothing (Gen seed count) = Unit {0}
 
 -- the words begin with this one, where there is one
 abbrev pub BeginsWith : List (List ℕ) → Option (Bor (List ℕ) × Bor (List (Bor (List ℕ)))) → Type 0

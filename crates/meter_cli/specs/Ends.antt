@@ -6,7 +6,7 @@ use Rattle.run_engine.specs.declared.Ended.{Ended}
 use Rattle.run_engine.specs.Dry.{EndsWithoutMemory}
 use Rattle.meter_cli.specs.Status.{status_of}
 use Rattle.meter_cli.specs.declared.job.Job.{Job}
-use Rattle.meter_cli.specs.declared.job.Job.TheVariants.{Init, Run, Dry, Show, Temp, Water, Coef}
+use Rattle.meter_cli.specs.declared.job.Job.TheVariants.{Init, Run, Dry, Show, Temp, Water, Coef, BenchCalc, BenchPair, BenchFlow, Gen}
 use Rattle.meter_cli.specs.declared.status.Status.{Status}
 use Rattle.meter_cli.specs.declared.status.Status.TheVariants.{Done, Config, Memory, Read, Write, Unformatted, Foreign, Formatted, OutOfMemory, Cut}
 
@@ -34,3 +34,7 @@ EndsBy Show status = EndsShow status
 EndsBy (Temp sensor r) status = EndsLine status
 EndsBy (Water p t) status = EndsLine status
 EndsBy (Coef place p tf tr) status = EndsLine status
+EndsBy (BenchCalc sensor place p dmin rf rr litres energy) status = EndsLine status
+EndsBy (BenchPair sensor dmin tf tr rf rr) status = EndsLine status
+EndsBy (BenchFlow class qp q reference indicated) status = EndsLine status
+EndsBy (Gen seed count) status = EndsLine status

@@ -1,7 +1,8 @@
 //! The words of the command line.
-ghost use Rattle.std.specs.Prelude.{◌≡◌, ◌+◌, ◌≤◌, IfOk, IfSome};
-ghost use Rattle.script_model.specs.Grammar.{end_at};
-ghost use Rattle.meter_cli.specs.Command.{BeginsWith, IsInRange, Says, coef_words, command_of, place_of, return_in, sensor_of, temp_words, texts, water_words};
+ghost use Rattle.std.specs.Prelude.{◌≡◌, ◌+◌, ◌≤◌, ◌<◌, IfOk, IfSome};
+ghost use Rattle.script_model.specs.Grammar.{end_at, word_at};
+ghost use Rattle.script_model.specs.Numbers.{number_in};
+ghost use Rattle.meter_cli.specs.Command.{BeginsWith, IsInRange, Says, SaysWord, bench_words, calc_words, coef_words, colder_in, command_of, flow_words, gen_words, pair_words, place_of, return_in, sensor_of, temp_words, texts, water_words};
 
 use event_script::number_word;
 use pt_curve::Sensor;
@@ -38,6 +39,45 @@ pub enum Job {
         tf_udeg: u32,
         tr_udeg: u32,
     },
+    /// `bench calc SENSOR PLACE P DMIN RF RR LITRES ENERGY`: the verdict on a calculator that indicated
+    /// `energy_mj` millijoules, at most 10^18, for `litres`, 1 to 10^9, at these samples in microohms and at
+    /// `p_kpa` kPa, 1,100 to 4,000. Its least difference is `dmin_udeg` microdegrees, 1 to 180,000,000.
+    BenchCalc {
+        sensor: Sensor,
+        place: Place,
+        p_kpa: u32,
+        dmin_udeg: u32,
+        rf: u32,
+        rr: u32,
+        litres: u64,
+        energy_mj: u64,
+    },
+    /// `bench pair SENSOR DMIN TF TR RF RR`: the verdict on a pair of sensors that gave these samples where the
+    /// true temperatures were `tf_udeg` microdegrees Celsius, at most 180,000,000, and `tr_udeg`, below it. Its
+    /// least difference is `dmin_udeg` microdegrees, 1 to 180,000,000.
+    BenchPair {
+        sensor: Sensor,
+        dmin_udeg: u32,
+        tf_udeg: u32,
+        tr_udeg: u32,
+        rf: u32,
+        rr: u32,
+    },
+    /// `bench flow CLASS QP Q REF IND`: the verdict on a flow sensor of class 1, 2 or 3 that indicated
+    /// `indicated` millilitres for `reference`, from 1, at the flow `q`, with the permanent flow `qp`. The flows are
+    /// 1 to 10^9 in one unit, the volumes at most 10^12.
+    BenchFlow {
+        class: u8,
+        qp: u32,
+        q: u32,
+        reference: u64,
+        indicated: u64,
+    },
+    /// `gen SEED COUNT`: meter the first `count` events, 1 to 1,000,000, that a number generates.
+    Gen {
+        seed: u64,
+        count: u32,
+    },
 }
 
 /// The words are no command, with the place of the first wrong, missing or extra word, counted from 0.
@@ -60,6 +100,25 @@ const MAX_TEMPERATURE: u64 = 180_000_000;
 
 /// The least difference of the temperatures of a heat coefficient, in microdegrees.
 const MIN_DIFFERENCE: u64 = 10_000;
+
+/// The greatest least difference of a calculator or a pair of sensors, in microdegrees.
+const MAX_LEAST_DIFFERENCE: u64 = 180_000_000;
+
+/// The most litres, and millijoules, that a calculator is tested with.
+const MAX_LITRES: u64 = 1_000_000_000;
+
+const MAX_ENERGY: u64 = 1_000_000_000_000_000_000;
+
+/// The last class of flow sensors.
+const LAST_CLASS: u64 = 3;
+
+/// The greatest flow, and the most millilitres, that a flow sensor is tested with.
+const MAX_FLOW: u64 = 1_000_000_000;
+
+const MAX_MILLILITRES: u64 = 1_000_000_000_000;
+
+/// The most events that are generated.
+const MAX_COUNT: u64 = 1_000_000;
 
 /// The command that the words after the program's name say.
 ///
@@ -86,6 +145,10 @@ pub fn command(words: &[&str]) -> Result<Job, Usage>
         water(rest)
     } else if name.as_bytes() == b"k".as_slice() {
         coef(rest)
+    } else if name.as_bytes() == b"bench".as_slice() {
+        bench(rest)
+    } else if name.as_bytes() == b"gen".as_slice() {
+        generate(rest)
     } else {
         Err(Usage { word: 0 })
     }
@@ -195,6 +258,178 @@ fn coef(words: &[&str]) -> Result<Job, Usage>
     }
 }
 
+// The words after `bench`.
+fn bench(words: &[&str]) -> Result<Job, Usage>
+    ensures says { Says result (bench_words (texts words.now)) }
+    ensures range { IfOk result IsInRange }
+{
+    let Some((kind, rest)) = first_of(words) else {
+        return Err(Usage { word: 1 });
+    };
+    if kind.as_bytes() == b"calc".as_slice() {
+        bench_calc(rest)
+    } else if kind.as_bytes() == b"pair".as_slice() {
+        bench_pair(rest)
+    } else if kind.as_bytes() == b"flow".as_slice() {
+        bench_flow(rest)
+    } else {
+        Err(Usage { word: 1 })
+    }
+}
+
+// The words after `bench calc`.
+fn bench_calc(words: &[&str]) -> Result<Job, Usage>
+    ensures says { Says result (calc_words (texts words.now)) }
+    ensures range { IfOk result IsInRange }
+{
+    let (sensor, words) = sensor_at(words, 2)?;
+    let (place, words) = place_at(words, 3)?;
+    let (pressure, words) = number_at(words, 4, MIN_PRESSURE, MAX_PRESSURE)?;
+    let (dmin, words) = number_at(words, 5, 1, MAX_LEAST_DIFFERENCE)?;
+    let (rf, words) = number_at(words, 6, 0, MAX_SAMPLE)?;
+    let (rr, words) = number_at(words, 7, 0, MAX_SAMPLE)?;
+    let (litres, words) = number_at(words, 8, 1, MAX_LITRES)?;
+    let (energy_mj, words) = number_at(words, 9, 0, MAX_ENERGY)?;
+    match first_of(words) {
+        Some(_) => Err(Usage { word: 10 }),
+        None => Ok(Job::BenchCalc {
+            sensor,
+            place,
+            p_kpa: pressure as u32,
+            dmin_udeg: dmin as u32,
+            rf: rf as u32,
+            rr: rr as u32,
+            litres,
+            energy_mj,
+        }),
+    }
+}
+
+// The words after `bench pair`.
+fn bench_pair(words: &[&str]) -> Result<Job, Usage>
+    ensures says { Says result (pair_words (texts words.now)) }
+    ensures range { IfOk result IsInRange }
+{
+    let (sensor, words) = sensor_at(words, 2)?;
+    let (dmin, words) = number_at(words, 3, 1, MAX_LEAST_DIFFERENCE)?;
+    let (tf, words) = number_at(words, 4, 0, MAX_TEMPERATURE)?;
+    let (tr, words) = colder_at(words, 5, tf)?;
+    let (rf, words) = number_at(words, 6, 0, MAX_SAMPLE)?;
+    let (rr, words) = number_at(words, 7, 0, MAX_SAMPLE)?;
+    match first_of(words) {
+        Some(_) => Err(Usage { word: 8 }),
+        None => Ok(Job::BenchPair {
+            sensor,
+            dmin_udeg: dmin as u32,
+            tf_udeg: tf as u32,
+            tr_udeg: tr as u32,
+            rf: rf as u32,
+            rr: rr as u32,
+        }),
+    }
+}
+
+// The words after `bench flow`.
+fn bench_flow(words: &[&str]) -> Result<Job, Usage>
+    ensures says { Says result (flow_words (texts words.now)) }
+    ensures range { IfOk result IsInRange }
+{
+    let (class, words) = number_at(words, 2, 1, LAST_CLASS)?;
+    let (qp, words) = number_at(words, 3, 1, MAX_FLOW)?;
+    let (q, words) = number_at(words, 4, 1, MAX_FLOW)?;
+    let (reference, words) = number_at(words, 5, 1, MAX_MILLILITRES)?;
+    let (indicated, words) = number_at(words, 6, 0, MAX_MILLILITRES)?;
+    match first_of(words) {
+        Some(_) => Err(Usage { word: 7 }),
+        None => Ok(Job::BenchFlow {
+            class: class as u8,
+            qp: qp as u32,
+            q: q as u32,
+            reference,
+            indicated,
+        }),
+    }
+}
+
+// The words after `gen`.
+fn generate(words: &[&str]) -> Result<Job, Usage>
+    ensures says { Says result (gen_words (texts words.now)) }
+    ensures range { IfOk result IsInRange }
+{
+    let (seed, words) = number_at(words, 1, 0, u64::MAX)?;
+    let (count, words) = number_at(words, 2, 1, MAX_COUNT)?;
+    match first_of(words) {
+        Some(_) => Err(Usage { word: 3 }),
+        None => Ok(Job::Gen {
+            seed,
+            count: count as u32,
+        }),
+    }
+}
+
+// The number from `low` to `high` that the word in this place says, and the words after it.
+fn number_at<'a, 'b>(
+    words: &'b [&'a str],
+    at: usize,
+    low: u64,
+    high: u64,
+) -> Result<(u64, &'b [&'a str]), Usage>
+    ensures says { SaysWord result (word_at at (number_in low high) (texts words.now)) }
+    ensures range { IfOk result (λ r. (low ≤ r.0) × (r.0 ≤ high)) }
+{
+    let Some((word, words)) = first_of(words) else {
+        return Err(Usage { word: at });
+    };
+    match number_word(word.as_bytes(), low, high) {
+        Some(number) => Ok((number, words)),
+        None => Err(Usage { word: at }),
+    }
+}
+
+// The temperature in the return that the word in this place says, below `tf` microdegrees Celsius in the flow.
+fn colder_at<'a, 'b>(
+    words: &'b [&'a str],
+    at: usize,
+    tf: u64,
+) -> Result<(u64, &'b [&'a str]), Usage>
+    ensures says { SaysWord result (word_at at (colder_in tf) (texts words.now)) }
+    ensures range { IfOk result (λ r. r.0 < tf) }
+{
+    let Some((word, words)) = first_of(words) else {
+        return Err(Usage { word: at });
+    };
+    match colder_word(word.as_bytes(), tf) {
+        Some(number) => Ok((number, words)),
+        None => Err(Usage { word: at }),
+    }
+}
+
+// The sensor that the word in this place names.
+fn sensor_at<'a, 'b>(words: &'b [&'a str], at: usize) -> Result<(Sensor, &'b [&'a str]), Usage>
+    ensures { SaysWord result (word_at at sensor_of (texts words.now)) }
+{
+    let Some((word, words)) = first_of(words) else {
+        return Err(Usage { word: at });
+    };
+    match sensor(word.as_bytes()) {
+        Some(sensor) => Ok((sensor, words)),
+        None => Err(Usage { word: at }),
+    }
+}
+
+// The pipe that the word in this place names.
+fn place_at<'a, 'b>(words: &'b [&'a str], at: usize) -> Result<(Place, &'b [&'a str]), Usage>
+    ensures { SaysWord result (word_at at place_of (texts words.now)) }
+{
+    let Some((word, words)) = first_of(words) else {
+        return Err(Usage { word: at });
+    };
+    match place(word.as_bytes()) {
+        Some(place) => Ok((place, words)),
+        None => Err(Usage { word: at }),
+    }
+}
+
 // The first word, and those after it.
 fn first_of<'a, 'b>(words: &'b [&'a str]) -> Option<(&'a str, &'b [&'a str])>
     ensures { BeginsWith (texts words.now) result }
@@ -237,4 +472,12 @@ fn return_word(word: &[u8], tf: u64) -> Option<u64>
     ensures range { IfSome result (λ n. n + 10000 ≤ tf) }
 {
     number_word(word, 0, tf.checked_sub(MIN_DIFFERENCE)?)
+}
+
+// The temperature in the return, where the flow has `tf` microdegrees Celsius and is warmer.
+fn colder_word(word: &[u8], tf: u64) -> Option<u64>
+    ensures value { result ≡ colder_in tf word.now }
+    ensures range { IfSome result (λ n. n < tf) }
+{
+    number_word(word, 0, tf.checked_sub(1)?)
 }

@@ -1,6 +1,8 @@
 //! The top call of the heat meter: what the program does.
 #![tactic(auto)]
 
+mod bench;
+mod generated;
 mod init;
 mod job;
 mod physics;

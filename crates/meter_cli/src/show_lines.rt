@@ -16,7 +16,7 @@ use itoa::Buffer;
 use meter_config::Config;
 
 /// The room of a line.
-const LINE_ROOM: usize = 192;
+pub const LINE_ROOM: usize = 192;
 
 /// The most lines: eight, and one for each month entry.
 const MAX_LINES: usize = 32;
@@ -138,8 +138,8 @@ fn entry_line(name: &str, config: &Config, entry: &Entry) -> ArrayString<LINE_RO
     line
 }
 
-// Adds `VOL E B`.
-fn push_register(line: &mut ArrayString<LINE_ROOM>, config: &Config, register: &Register)
+/// Adds `VOL E B`: litres, and the energy and its bound in millijoules.
+pub fn push_register(line: &mut ArrayString<LINE_ROOM>, config: &Config, register: &Register)
     requires { length line.old.bytes ≤ 60 }
     ensures bytes { line.new.bytes ≡ line.old.bytes ++ register_shown config.now.per_pulse (register_view register.now) }
     ensures short { length line.new.bytes ≤ length line.old.bytes + 122 }

@@ -641,3 +641,146 @@ fn refused_texts_have_texts(rt: HostRuntime) {
         assert_eq!(&rt; status_line(&status).as_str(), text);
     }
 }
+
+// What a command that reads nothing puts, over a board that answers it.
+fn one_line(rt: &(impl Abort + AllocGlobal), words: &[&str]) -> Result<String, Fail> {
+    let mut board = board(rt)?;
+    let mut source = SliceSource::new(b"", 1);
+    assert_eq!(rt;
+        meter(rt.alloc(), words, &mut source, &mut board),
+        Status::Done
+    );
+    let bytes: Vec<u8> = board.output().collect(rt.alloc())?;
+    Ok(String::from_str(rt.alloc(), std::str::from_utf8(&bytes)?)?)
+}
+
+// The words of a test of a calculator in the return at 1,600 kPa, with a least difference of 3 °C and 100 litres.
+fn calculator_line(
+    rt: &(impl Abort + AllocGlobal),
+    rf: &str,
+    rr: &str,
+    energy: &str,
+) -> Result<String, Fail> {
+    one_line(
+        rt,
+        &[
+            "bench", "calc", "500", "return", "1600", "3000000", rf, rr, "100", energy,
+        ],
+    )
+}
+
+// From 60 to 50 °C a litre gives off 41303818.149.. mJ, and the limits of 10 °C are 0.8 %: 100 litres may show
+// 4097338760.41.. to 4163424869.44.. mJ. These were computed apart from this code, with 60 decimals.
+#[test]
+fn calculators_have_their_verdicts(rt: HostRuntime) -> Result<(), Fail> {
+    for (rf, rr, energy, output) in [
+        ("616209500", "596985625", "4130381815", "pass\n"),
+        ("616209500", "596985625", "4163390000", "pass\n"),
+        ("616209500", "596985625", "4163460000", "high\n"),
+        ("616209500", "596985625", "4097370000", "pass\n"),
+        ("616209500", "596985625", "4097300000", "low\n"),
+        ("597004877", "596985625", "0", "small\n"),
+        ("0", "596985625", "0", "out\n"),
+        ("616209500", "4294967295", "0", "out\n"),
+    ] {
+        let line = calculator_line(&rt, rf, rr, energy)?;
+        assert_eq!(&rt; line.as_str(), output);
+    }
+    let line = calculator_line(&rt, "616209500", "596985625", "4163424869")?;
+    let mut words = line.as_str().split_whitespace();
+    assert_eq!(&rt; words.next(), Some("undecided"));
+    let lo = words.next().ok_or("no number")?.parse::<i128>()?;
+    let hi = words.next().ok_or("no number")?.parse::<i128>()?;
+    assert_eq!(&rt; words.next(), None);
+    assert!(&rt; 41_302_618 <= lo && lo <= 41_303_818);
+    assert!(&rt; 41_303_819 <= hi && hi <= lo + 1_200);
+    Ok(())
+}
+
+// A Pt500 at 54 °C and at 50 °C where 53 and 50 °C are true: the limits of 3 °C are 2.895 and 3.105 °C.
+#[test]
+fn pairs_of_sensors_have_their_verdicts(rt: HostRuntime) -> Result<(), Fail> {
+    for (tf, rf, output) in [
+        ("53000000", "604682105", "high\n"),
+        ("54000000", "604682105", "pass\n"),
+        ("56000000", "604682105", "low\n"),
+        ("53000000", "500000000", "out\n"),
+    ] {
+        let words = [
+            "bench",
+            "pair",
+            "500",
+            "3000000",
+            tf,
+            "50000000",
+            rf,
+            "596985625",
+        ];
+        assert_eq!(&rt; one_line(&rt, &words)?.as_str(), output);
+    }
+    Ok(())
+}
+
+#[test]
+fn flow_sensors_have_their_verdicts(rt: HostRuntime) -> Result<(), Fail> {
+    for (q, indicated, output) in [
+        ("15", "104000", "pass\n"),
+        ("15", "104001", "high\n"),
+        ("15", "95999", "low\n"),
+        ("6", "105001", "high\n"),
+    ] {
+        let words = ["bench", "flow", "2", "1500", q, "100000", indicated];
+        assert_eq!(&rt; one_line(&rt, &words)?.as_str(), output);
+    }
+    Ok(())
+}
+
+// Of 2,000 events of seed 7 the pulses were 9,074, and the energy 29555922715982.16.. mJ, computed apart from this code.
+#[test]
+fn generated_events_are_metered(rt: HostRuntime) -> Result<(), Fail> {
+    assert_eq!(&rt;
+        one_line(&rt, &["gen", "1", "1"])?.as_str(),
+        "gen 1 1 0 0 0\n"
+    );
+    let line = one_line(&rt, &["gen", "7", "2000"])?;
+    let again = one_line(&rt, &["gen", "7", "2000"])?;
+    assert_eq!(&rt; line.as_str(), again.as_str());
+    let mut words = line.as_str().split_whitespace();
+    for word in ["gen", "2000", "2000", "90740"] {
+        assert_eq!(&rt; words.next(), Some(word));
+    }
+    let energy = words.next().ok_or("no number")?.parse::<i64>()?;
+    let bound = words.next().ok_or("no number")?.parse::<u64>()?;
+    assert_eq!(&rt; words.next(), None);
+    assert!(&rt; energy.abs_diff(29_555_922_715_982) <= bound && bound <= 90_740 * 2_000);
+    Ok(())
+}
+
+#[test]
+fn words_of_tests_are_tested(rt: HostRuntime) {
+    for (words, word) in [
+        (["bench"].as_slice(), 1),
+        (["bench", "water"].as_slice(), 1),
+        (["bench", "calc", "200"].as_slice(), 2),
+        (["bench", "calc", "500", "flow", "1600", "0"].as_slice(), 5),
+        (
+            ["bench", "pair", "500", "1", "0", "0", "1", "1"].as_slice(),
+            5,
+        ),
+        (
+            ["bench", "pair", "500", "1", "5", "5", "1", "1"].as_slice(),
+            5,
+        ),
+        (["bench", "flow", "4", "1500"].as_slice(), 2),
+        (
+            ["bench", "flow", "2", "1", "1", "1", "0", "0"].as_slice(),
+            7,
+        ),
+        (["gen", "18446744073709551616", "1"].as_slice(), 1),
+        (["gen", "1", "0"].as_slice(), 2),
+        (["gen", "1", "1000001"].as_slice(), 2),
+        (["gen", "1", "1", "1"].as_slice(), 3),
+    ] {
+        assert_eq!(&rt; command(words), Err(Usage { word }));
+    }
+}

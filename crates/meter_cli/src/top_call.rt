@@ -15,10 +15,13 @@ ghost use Rattle.meter_config.specs.Faults.{Refuses};
 ghost use Rattle.meter_config.specs.declared.fault.ConfigFault.{ConfigFault};
 ghost use Rattle.register_store.specs.Formatted.{UnformattedOr};
 ghost use Rattle.run_engine.specs.Dry.{dry_opening, dry_settings};
+ghost use Rattle.meter_cli.specs.Bench.{CalcLeaves, PairLeaves, flow_text};
 ghost use Rattle.meter_cli.specs.Coef.{CoefLeaves};
 ghost use Rattle.meter_cli.specs.Command.{PutsOneLine, ReadsNothing, command_of, texts};
 ghost use Rattle.meter_cli.specs.Ends.{EndsBy, EndsText};
+ghost use Rattle.meter_cli.specs.Gen.{GenLeaves};
 ghost use Rattle.meter_cli.specs.Init.{InitAnswers, InitLeaves, first_record};
+ghost use Rattle.meter_cli.specs.Puts.{PutsLine};
 ghost use Rattle.meter_cli.specs.Show.{ShowLeaves};
 ghost use Rattle.meter_cli.specs.Status.{DryLeaves, RunEnds, status_of};
 ghost use Rattle.meter_cli.specs.Temp.{TempLeaves};
@@ -27,6 +30,9 @@ ghost use Rattle.meter_cli.specs.declared.job.Job.{Job};
 ghost use Rattle.pt_curve.specs.declared.sensor.Sensor.{Sensor};
 ghost use Rattle.sensor_pair.specs.declared.place.Place.{Place};
 
+use crate::bench;
+use crate::bench::{CalculatorTest, PairTest};
+use crate::generated::generate;
 use crate::init::init;
 use crate::job::{Job, command};
 use crate::physics::{coef, temp, water};
@@ -86,6 +92,10 @@ pub fn meter<S: Source, B: Board>(
     ensures temp { (sensor : Sensor) (r : ℕ) → command_of (texts words.now) ≡ Ok (Job.Temp sensor r) → B.tells → TempLeaves sensor r (B.trace board.old) (B.trace board.new) result }
     ensures water { (p t : ℕ) → command_of (texts words.now) ≡ Ok (Job.Water p t) → B.tells → WaterLeaves p t (B.trace board.old) (B.trace board.new) result }
     ensures coef { (place : Place) (p tf tr : ℕ) → command_of (texts words.now) ≡ Ok (Job.Coef place p tf tr) → B.tells → CoefLeaves place p tf tr (B.trace board.old) (B.trace board.new) result }
+    ensures calc { (sensor : Sensor) (place : Place) (p dmin rf rr litres energy : ℕ) → command_of (texts words.now) ≡ Ok (Job.BenchCalc sensor place p dmin rf rr litres energy) → B.tells → CalcLeaves sensor place p dmin rf rr litres energy (B.trace board.old) (B.trace board.new) result }
+    ensures pair { (sensor : Sensor) (dmin tf tr rf rr : ℕ) → command_of (texts words.now) ≡ Ok (Job.BenchPair sensor dmin tf tr rf rr) → B.tells → PairLeaves sensor dmin tf tr rf rr (B.trace board.old) (B.trace board.new) result }
+    ensures flow { (class qp q reference indicated : ℕ) → command_of (texts words.now) ≡ Ok (Job.BenchFlow class qp q reference indicated) → B.tells → PutsLine (flow_text class qp q reference indicated) (B.trace board.old) (B.trace board.new) result }
+    ensures generated { (seed count : ℕ) → command_of (texts words.now) ≡ Ok (Job.Gen seed count) → B.tells → GenLeaves seed count (B.trace board.old) (B.trace board.new) result }
     ensures one_line { (job : Job) → command_of (texts words.now) ≡ Ok job → PutsOneLine job → (result ≡ Status.Done) ⊎ Rose (B.output_faults board.old) (B.output_faults board.new) }
 
     // They and `show` read nothing.
@@ -120,6 +130,60 @@ pub fn meter<S: Source, B: Board>(
                 tr_udeg,
             },
         ) => coef(board, place, p_kpa, tf_udeg, tr_udeg),
+        Ok(
+            Job::BenchCalc {
+                sensor,
+                place,
+                p_kpa,
+                dmin_udeg,
+                rf,
+                rr,
+                litres,
+                energy_mj,
+            },
+        ) => {
+            let test = CalculatorTest {
+                sensor,
+                place,
+                p_kpa,
+                dmin_udeg,
+                rf,
+                rr,
+                litres,
+                energy_mj,
+            };
+            bench::calc(board, test)
+        }
+        Ok(
+            Job::BenchPair {
+                sensor,
+                dmin_udeg,
+                tf_udeg,
+                tr_udeg,
+                rf,
+                rr,
+            },
+        ) => {
+            let test = PairTest {
+                sensor,
+                dmin_udeg,
+                tf_udeg,
+                tr_udeg,
+                rf,
+                rr,
+            };
+            bench::pair(board, test)
+        }
+        Ok(
+            Job::BenchFlow {
+                class,
+                qp,
+                q,
+                reference,
+                indicated,
+            },
+        ) => bench::flow(board, class, qp, q, reference, indicated),
+        Ok(Job::Gen { seed, count }) => generate(board, seed, count),
     }
 }
 

@@ -18,5 +18,20 @@ returns-in-Ok-Water-clause-one_line g c = λ job is one. done_or c.water.result 
 pub returns-in-Ok-Coef-clause-one_line : goal.returns-in-Ok-Coef-clause-one_line
 returns-in-Ok-Coef-clause-one_line g c = λ job is one. done_or c.coef.result c.coef.ensures.kind c.coef.ensures.write
 
+pub returns-in-Ok-Temp-clause-one_line : goal.returns-in-Ok-Temp-clause-one_line
+returns-in-Ok-Temp-clause-one_line g c = λ job is one. done_or c.temp.result c.temp.ensures.kind c.temp.ensures.write
+
+pub returns-in-Ok-BenchCalc-clause-one_line : goal.returns-in-Ok-BenchCalc-clause-one_line
+returns-in-Ok-BenchCalc-clause-one_line g c = λ job is one. done_or c.calc.result c.calc.ensures.kind c.calc.ensures.write
+
+pub returns-in-Ok-BenchPair-clause-one_line : goal.returns-in-Ok-BenchPair-clause-one_line
+returns-in-Ok-BenchPair-clause-one_line g c = λ job is one. done_or c.pair.result c.pair.ensures.kind c.pair.ensures.write
+
+pub returns-in-Ok-BenchFlow-clause-one_line : goal.returns-in-Ok-BenchFlow-clause-one_line
+returns-in-Ok-BenchFlow-clause-one_line g c = λ job is one. done_or c.flow.result c.flow.ensures.kind c.flow.ensures.write
+
+pub returns-in-Ok-Gen-clause-one_line : goal.returns-in-Ok-Gen-clause-one_line
+returns-in-Ok-Gen-clause-one_line g c = λ job is one. done_or c.generate.result c.generate.ensures.kind c.generate.ensures.write
+
 pub returns-in-Ok-Show-clause-base : goal.returns-in-Ok-Show-clause-base
 returns-in-Ok-Show-clause-base g c = λ tells. shows_base _ _ _ c.show.result (c.show.ensures.leaves tells)
