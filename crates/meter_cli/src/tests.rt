@@ -633,7 +633,7 @@ fn one_line(rt: &(impl Abort + AllocGlobal), words: &[&str]) -> Result<String, F
         Status::Done
     );
     let bytes: Vec<u8> = board.output().collect(rt.alloc())?;
-    Ok(String::from(rt.alloc(), std::str::from_utf8(&bytes)?)?)
+    Ok(String::from_str(rt.alloc(), std::str::from_utf8(&bytes)?)?)
 }
 
 // The words of a test of a calculator in the return at 1,600 kPa, with a least difference of 3 °C and 100 litres.
