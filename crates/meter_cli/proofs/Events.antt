@@ -1,20 +1,19 @@
 -- The generated events that a record took.
-use Rattle.std.proofs.Common.{◌≡◌, ℕ, zero, ◌+◌, ◌*◌, ◌/◌, ◌%◌, ◌<◌, ◌≤◌, suc, List, [], ◌∷◌, ◌++◌, length, map, None, Some, Bool, true, false, refl, sym, ap, ◌∙◌, subst, arith, add-one, length-append, pos}
-use Rattle.std.specs.Prelude.{if◌then◌else◌, ◌==◌, filter_map}
+use Rattle.std.proofs.Common.{◌≡◌, ℕ, ◌+◌, ◌*◌, ◌/◌, ◌%◌, ◌<◌, ◌≤◌, List, [], ◌∷◌, ◌++◌, map, None, Bool, true, false, refl, sym, ap, ◌∙◌, subst, arith, add-one, length-append}
+use Rattle.std.specs.Prelude.{if◌then◌else◌, ◌==◌}
 use Rattle.std.proofs.lemmas.List.{map-append}
 use Rattle.calendar_model.specs.Calendar.{day_number}
-use Rattle.calendar_model.specs.Entries.{last_or}
-use Rattle.metering_model.specs.Events.{Event, Sample, Pulse, Date, Kept, pulses_of, day_of}
+use Rattle.metering_model.specs.Events.{Event, Sample, Pulse, Date, Kept, pulses_of}
 use Rattle.metering_model.specs.Counting.{counted_by}
-use Rattle.metering_model.specs.Records.{MeterRecord, Register, StandsFor, record_after, register_after, day_after}
+use Rattle.metering_model.specs.Records.{MeterRecord, Register, StandsFor, day_after}
 use Rattle.metering_model.specs.Integral.{AddsBy, AllFitWithMargin, FitsWithMargin, TakesEvent}
 use Rattle.metering_model.proofs.Joined.{fit-more, register_after-joined, day_after-joined}
-use Rattle.generator_model.specs.Generated.{event_at, event_with, draw_at}
+use Rattle.generator_model.specs.Generated.{event_at, draw_at}
 use Rattle.load_gen.proofs.Steps.{first_day}
 use Rattle.journal_model.specs.Faults.{event_fault}
 use Rattle.meter_core.proofs.Records.{fault_by_kind, no_pulse_fault, no_date_fault}
 use Rattle.run_engine.specs.Dry.{dry_opening, dry_settings}
-use Rattle.meter_cli.specs.Gen.{KeepsEvents, StandsForEvents, first_events}
+use Rattle.meter_cli.specs.Gen.{StandsForEvents, first_events}
 
 -- the record took the first n events, so it has few pulses, and its day is early
 pub record Going (seed n : ℕ) (r : MeterRecord) : Type 0 where

@@ -1,4 +1,4 @@
-use Rattle.std.proofs.Common.{inl, inr, subst, sym, refl, ap}
+use Rattle.std.proofs.Common.{inl, inr, subst, sym}
 use Rattle.platinum_model.specs.Element.{nominal}
 use Rattle.platinum_model.specs.Sample.{IsInRange}
 use Rattle.meter_cli.proofs.bench.calc_line.Goals as goal

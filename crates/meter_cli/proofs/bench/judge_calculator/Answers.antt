@@ -1,4 +1,4 @@
-use Rattle.std.proofs.Common.{rules, subst}
+use Rattle.std.proofs.Common.{subst}
 use Rattle.heat_model.specs.Heat.{LiesBetween, litre_energy}
 use Rattle.pt_curve.specs.Curve.{element}
 use Rattle.sensor_pair.specs.Place.{place_view}

@@ -7,7 +7,6 @@ use Rattle.journal_model.specs.Faults.{event_fault}
 use Rattle.billing_memory.specs.Records.{record_view}
 use Rattle.event_script.specs.Views.{event_view}
 use Rattle.meter_config.specs.Views.{settings_of}
-use Rattle.run_engine.specs.Dry.{dry_settings}
 use Rattle.meter_cli.proofs.Events.{Going, started, taken, goes_on}
 use Rattle.meter_cli.proofs.generated.meter_after.Goals as goal
 
