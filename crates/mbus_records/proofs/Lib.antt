@@ -1,0 +1,4 @@
+pub mod Pushes
+pub mod WholeTemps
+pub mod MonthEntries
+pub mod Composed
