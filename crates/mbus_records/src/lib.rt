@@ -4,7 +4,13 @@
 
 mod compose;
 mod months;
+mod order;
 mod push;
+mod reading;
+mod slave;
 mod temps;
+#[cfg(test)]
+mod tests;
 
 pub use compose::telegram;
+pub use slave::Slave;
