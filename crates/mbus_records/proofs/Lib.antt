@@ -1,0 +1,5 @@
+pub mod Pushes
+pub mod WholeTemps
+pub mod MonthEntries
+pub mod Composed
+pub mod Steps
