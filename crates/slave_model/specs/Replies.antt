@@ -32,13 +32,13 @@ abbrev pub advances_heard : Configuration → List Heard → ℕ
 advances_heard c [] = 0
 advances_heard c (h ∷ before) = (if advances c before h.frame then 1 else 0) + advances_heard c before
 
--- the telegram that the latest request of a reading asks for: as many as came before it in the reading
+-- the telegram that the latest request of a reading asks for: its number is how many came before it in the reading
 abbrev pub telegram_asked : Configuration → (access : ℕ) → List Heard → Option Frame
 telegram_asked c access [] = None
 telegram_asked c access (h ∷ before) = telegram c (frozen h before) (length before) access
 
--- The reply to the latest request: where it advances its telegram, with the number of advancing requests before it
--- as the access number; where it repeats the reply to the request before it.
+-- The reply to the latest request: where it advances, its telegram, with the number of advancing requests before it
+-- as the access number; where it repeats, the reply to the request before it.
 abbrev pub request_reply : Configuration → List Heard → Option Frame
 request_reply c [] = None
 request_reply c (h ∷ before) =
