@@ -1,33 +1,25 @@
 -- What a meter says at its optical head, after IEC 62056-21.
-use Rattle.std.specs.Prelude.{◌≡◌, ℕ, ◌+◌, ◌*◌, pos, bit_xor, List, [], ◌∷◌, ◌++◌, reverse, codes}
+use Rattle.std.specs.Prelude.{◌≡◌, ℕ, ◌+◌, bit_xor, List, [], ◌∷◌, ◌++◌, reverse, codes}
 use Rattle.std.specs.List.{fold}
 use Rattle.std.specs.Option.{option_to_list}
 use Rattle.calendar_model.specs.Entries.{MonthEntry}
 use Rattle.calendar_model.specs.Texts.{IsDayText, two_digits}
-use Rattle.display_model.specs.Display.{energy_unit, volume_unit, shown_digits, eight_digits, pointed}
+use Rattle.display_model.specs.Display.{eight_digits}
 use Rattle.metering_model.specs.Records.{Register, MeterRecord}
 use Rattle.config_model.specs.Configuration.{Configuration}
+use Rattle.show_model.specs.Lines.{energy_display, volume_display}
 
 -- the identification: the maker's letters and the name of the meter's kind
 abbrev pub identification : Configuration → List ℕ
 identification c = codes "/" ++ c.maker ++ codes "5HEAT\r\n"
 
--- the energy of a register as the display shows it
-abbrev pub energy_text : Configuration → Register → List ℕ
-energy_text c r = pointed c.energy_decimals (eight_digits (shown_digits r.energy_mj (energy_unit c.energy_decimals)))
-
--- the volume of a register as the display shows it
-abbrev pub volume_text : Configuration → Register → List ℕ
-volume_text c r =
-    pointed c.volume_decimals (eight_digits (shown_digits (pos (r.pulses * c.litres_per_pulse)) (volume_unit c.volume_decimals)))
-
--- the energy in brackets, at the end of a line
+-- the energy as the display shows it, in brackets, at the end of a line
 abbrev pub energy_value : Configuration → Register → List ℕ
-energy_value c r = codes "(" ++ energy_text c r ++ codes "*kWh)\r\n"
+energy_value c r = codes "(" ++ energy_display c r ++ codes "*kWh)\r\n"
 
--- the volume in brackets, at the end of a line
+-- the volume as the display shows it, in brackets, at the end of a line
 abbrev pub volume_value : Configuration → Register → List ℕ
-volume_value c r = codes "(" ++ volume_text c r ++ codes "*m3)\r\n"
+volume_value c r = codes "(" ++ volume_display c r ++ codes "*m3)\r\n"
 
 -- the line of the serial number
 abbrev pub serial_line : Configuration → List ℕ
