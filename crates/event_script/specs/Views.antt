@@ -1,5 +1,5 @@
 -- What the code's types say, in the words of the definitions.
-use Rattle.std.specs.Prelude.{◌≡◌, ℕ, ◌≤◌, List, [], Option, None, Some, Result, Ok, Err, MatchResult}
+use Rattle.std.specs.Prelude.{◌≡◌, ℕ, ◌≤◌, List, [], length, Option, None, Some, Result, Ok, Err, MatchResult}
 use Rattle.metering_model.specs.Events as events
 use Rattle.script_model.specs.Lines.{words_of}
 use Rattle.script_model.specs.Grammar as grammar
@@ -7,7 +7,7 @@ use Rattle.journal_model.specs.Faults as faults
 use Rattle.event_script.specs.declared.Event.{Event}
 use Rattle.event_script.specs.declared.Event.TheVariants.{Sample, Pulse, Date}
 use Rattle.event_script.specs.declared.Line.{Line}
-use Rattle.event_script.specs.declared.Line.TheVariants.{Metering}
+use Rattle.event_script.specs.declared.Line.TheVariants.{Metering, Opt, Mbus}
 use Rattle.event_script.specs.declared.Grammar.{Grammar}
 use Rattle.event_script.specs.declared.LineFault.{LineFault}
 use Rattle.event_script.specs.declared.LineFault.TheVariants as refused
@@ -19,6 +19,8 @@ event_view (Date day) = events.Date day.number
 
 abbrev pub line_view : Line → grammar.Line
 line_view (Metering event) = grammar.Metering (event_view event)
+line_view (Opt message) = grammar.Opt message.items
+line_view (Mbus message) = grammar.Mbus message.items
 
 abbrev pub fault_view : LineFault → faults.Fault
 fault_view (refused.Grammar at) = faults.Grammar at
@@ -27,6 +29,7 @@ fault_view (refused.PulsesFull sum) = faults.PulsesFull sum
 fault_view (refused.EventsFull seq) = faults.EventsFull seq
 fault_view refused.TooLong = faults.TooLong
 fault_view refused.TooMany = faults.TooMany
+fault_view refused.NotDry = faults.NotDry
 
 -- what was read is what the definition says, and so is the place of the first wrong word
 abbrev pub Reads : Result Line Grammar → Result grammar.Line ℕ → Type 0
@@ -38,8 +41,11 @@ IsEvent (Sample rf rr) = Unit {0}
 IsEvent (Pulse n) = (1 ≤ n) × (n ≤ 1000000000000000)
 IsEvent (Date day) = Unit {0}
 
+-- a message has 1 byte at least
 abbrev pub IsInRange : Line → Type 0
 IsInRange (Metering event) = IsEvent event
+IsInRange (Opt message) = 1 ≤ length message.items
+IsInRange (Mbus message) = 1 ≤ length message.items
 
 -- the words that are left: none, or those of a text
 abbrev pub rest_words : Option (List ℕ) → List (List ℕ)

@@ -2,11 +2,13 @@
 #![tactic(auto)]
 
 mod date;
+mod message;
 mod number;
 mod read;
 mod words;
 
 use billing_memory::Day;
+pub use message::Message;
 pub use number::number_word;
 pub use read::read_line;
 use thiserror::Error;
@@ -24,9 +26,14 @@ pub enum Event {
 }
 
 /// What a line of a script says.
-#[derive(Clone, Copy, Debug, PartialEq, Eq)]
+#[derive(Clone, Debug, PartialEq, Eq, Drop)]
 pub enum Line {
+    /// A metering event.
     Metering(Event),
+    /// A message to the optical head.
+    Opt(Message),
+    /// Bytes on the M-Bus.
+    Mbus(Message),
 }
 
 /// A line outside the grammar, with the place of its first wrong, missing or extra word, counted from 0.
@@ -57,4 +64,7 @@ pub enum LineFault {
     /// The line stands behind a million lines.
     #[error("too many")]
     TooMany,
+    /// The line is a readout, which a run without a memory doesn't have.
+    #[error("not in dry")]
+    NotDry,
 }

@@ -1,12 +1,13 @@
 //! What a line says.
 ghost use Rattle.std.specs.Prelude.{◌≡◌, ◌≤◌, length, Ok, Err, IfOk, MatchResult};
-ghost use Rattle.std.specs.Option.{option_map};
-ghost use Rattle.script_model.specs.Grammar.{line_of, sample_line, pulse_line, date_line, word_at, end_at, Metering};
+ghost use Rattle.std.specs.Option.{ForSome, option_map};
+ghost use Rattle.script_model.specs.Grammar.{line_of, sample_line, pulse_line, date_line, opt_line, mbus_line, word_at, end_at};
 ghost use Rattle.script_model.specs.Numbers.{number_in};
-ghost use Rattle.event_script.specs.declared.Line.TheVariants as lines;
-ghost use Rattle.event_script.specs.Views.{IsInRange, Reads, event_view, rest_words};
+ghost use Rattle.script_model.specs.Hex.{hex_in};
+ghost use Rattle.event_script.specs.Views.{IsInRange, Reads, line_view, rest_words};
 
 use crate::date::date_word;
+use crate::message::{Message, message_word};
 use crate::number::number_word;
 use crate::words::split_word;
 use crate::{Event, Grammar, Line};
@@ -33,6 +34,10 @@ pub fn read_line(line: &[u8]) -> Result<Line, Grammar>
         read_pulse(words)
     } else if name == b"date".as_slice() {
         read_date(words)
+    } else if name == b"opt".as_slice() {
+        read_opt(words)
+    } else if name == b"mbus".as_slice() {
+        read_mbus(words)
     } else {
         Err(Grammar { at: 0 })
     }
@@ -46,7 +51,7 @@ fn read_sample(words: Option<&[u8]>) -> Result<Line, Grammar>
     let (rf, words) = number_at(words, 1, 0, MAX_SAMPLE)?;
     let (rr, words) = number_at(words, 2, 0, MAX_SAMPLE)?;
     let (rf, rr) = (rf as u32, rr as u32);
-    metering_line(words, 3, Event::Sample { rf, rr })
+    whole_line(words, 3, Line::Metering(Event::Sample { rf, rr }))
 }
 
 // `pulse N`, from the word after the name on.
@@ -55,7 +60,7 @@ fn read_pulse(words: Option<&[u8]>) -> Result<Line, Grammar>
     ensures said { Reads result (pulse_line (rest_words (option_map (λ r. r.now) words.entry))) }
 {
     let (n, words) = number_at(words, 1, 1, MAX_PULSES)?;
-    metering_line(words, 2, Event::Pulse { n })
+    whole_line(words, 2, Line::Metering(Event::Pulse { n }))
 }
 
 // `date YYYY-MM-DD`, from the word after the name on.
@@ -70,7 +75,27 @@ fn read_date(words: Option<&[u8]>) -> Result<Line, Grammar>
     let Some(day) = date_word(word) else {
         return Err(Grammar { at: 1 });
     };
-    metering_line(words, 2, Event::Date { day })
+    whole_line(words, 2, Line::Metering(Event::Date { day }))
+}
+
+// `opt HEX`, from the word after the name on.
+fn read_opt(words: Option<&[u8]>) -> Result<Line, Grammar>
+    requires { ForSome words (λ rest. length rest.now ≤ 116) }
+    ensures range { IfOk result IsInRange }
+    ensures said { Reads result (opt_line (rest_words (option_map (λ r. r.now) words.entry))) }
+{
+    let (message, words) = first_message(words)?;
+    whole_line(words, 2, Line::Opt(message))
+}
+
+// `mbus HEX`, from the word after the name on.
+fn read_mbus(words: Option<&[u8]>) -> Result<Line, Grammar>
+    requires { ForSome words (λ rest. length rest.now ≤ 116) }
+    ensures range { IfOk result IsInRange }
+    ensures said { Reads result (mbus_line (rest_words (option_map (λ r. r.now) words.entry))) }
+{
+    let (message, words) = first_message(words)?;
+    whole_line(words, 2, Line::Mbus(message))
 }
 
 // The number from `low` to `high` that the word at a place says, and what follows that word.
@@ -96,15 +121,34 @@ fn number_at(
     }
 }
 
-// The line of an event, where no word stands at a place behind it.
+// The message that the word after the name says, and what follows that word.
+fn first_message(words: Option<&[u8]>) -> Result<(Message, Option<&[u8]>), Grammar>
+    requires { ForSome words (λ rest. length rest.now ≤ 116) }
+    ensures said { MatchResult result
+        (λ m. word_at 1 hex_in (rest_words (option_map (λ r. r.now) words.entry))
+        ≡ Ok (m.0.items, rest_words (option_map (λ r. r.now) m.1)))
+        (λ e. word_at 1 hex_in (rest_words (option_map (λ r. r.now) words.entry)) ≡ Err e.at) }
+    ensures some { IfOk result (λ m. 1 ≤ length m.0.items) }
+{
+    let Some(rest) = words else {
+        return Err(Grammar { at: 1 });
+    };
+    let (word, words) = split_word(rest);
+    match message_word(word) {
+        Some(message) => Ok((message, words)),
+        None => Err(Grammar { at: 1 }),
+    }
+}
+
+// The line, where no word stands at a place behind it.
 #[tactic(auto, using(crate::proofs::Cuts::no_end))]
-fn metering_line(words: Option<&[u8]>, at: u8, event: Event) -> Result<Line, Grammar>
-    ensures said { Reads result (end_at at (Metering (event_view event)) (rest_words (option_map (λ r. r.now) words.entry))) }
-    ensures event { IfOk result (λ line. line ≡ lines.Metering event) }
+fn whole_line(words: Option<&[u8]>, at: u8, line: Line) -> Result<Line, Grammar>
+    ensures said { Reads result (end_at at (line_view line) (rest_words (option_map (λ r. r.now) words.entry))) }
+    ensures same { IfOk result (λ whole. whole ≡ line) }
 {
     match words {
         Some(_) => Err(Grammar { at }),
-        None => Ok(Line::Metering(event)),
+        None => Ok(line),
     }
 }
 
@@ -144,5 +188,46 @@ mod tests {
         assert_eq!(rt; read_line(b"date 2023-02-29"), Err(Grammar { at: 1 }));
         assert_eq!(rt; read_line(b"date 2024-2-29"), Err(Grammar { at: 1 }));
         assert_eq!(rt; read_line(b"date 2024-01-15 x"), Err(Grammar { at: 2 }));
+    }
+
+    #[test]
+    fn messages_are_read(rt: HostRuntime) {
+        for line in [b"opt 2F3F210D0A".as_slice(), b"opt 2f3f210d0a".as_slice()] {
+            let Ok(Line::Opt(message)) = read_line(line) else {
+                panic!(rt; "no message");
+            };
+            assert_eq!(rt;
+                message.as_slice(),
+                [0x2F, 0x3F, 0x21, 0x0D, 0x0A].as_slice()
+            );
+        }
+        let Ok(Line::Mbus(bytes)) = read_line(b"mbus 1040014116") else {
+            panic!(rt; "no bytes");
+        };
+        assert_eq!(rt; bytes.as_slice(), [0x10, 0x40, 0x01, 0x41, 0x16].as_slice());
+    }
+
+    #[test]
+    fn the_longest_message_is_read(rt: HostRuntime) {
+        assert_eq!(rt;
+            read_line(
+                b"opt A5A5A5A5A5A5A5A5A5A5A5A5A5A5A5A5A5A5A5A5A5A5A5A5A5A5A5A5A5A5A5A5A5A5A5A5A5A5A5A5A5A5A5A5A5A5A5A5A5A5A5A5A5A5A5A5A5A5"
+            ),
+            Ok(Line::Opt(Message::from([0xA5; 58])))
+        );
+    }
+
+    #[test]
+    fn words_that_are_no_message_are_refused(rt: HostRuntime) {
+        for (line, at) in [
+            (b"opt".as_slice(), 1),
+            (b"opt ".as_slice(), 1),
+            (b"opt 2F3".as_slice(), 1),
+            (b"opt 2G".as_slice(), 1),
+            (b"opt 2F 3F".as_slice(), 2),
+            (b"mbus 104001411".as_slice(), 1),
+        ] {
+            assert_eq!(rt; read_line(line), Err(Grammar { at }));
+        }
     }
 }

@@ -1,13 +1,15 @@
 -- The text of an output line has its LF at the end alone.
-use Rattle.std.proofs.Common.{◌≡◌, ℕ, ◌+◌, ◌<◌, ◌^◌, ◌%◌, true, suc, ℤ, pos, negsuc, [], ◌∷◌, ◌++◌, take, refl, arith, codes}
+use Rattle.std.proofs.Common.{◌≡◌, ◌⊎◌, inl, inr, ℕ, ◌+◌, ◌<◌, ◌^◌, ◌/◌, ◌%◌, ◌==◌, not, true, false, zero, suc, ℤ, pos, negsuc, List, [], ◌∷◌, ◌++◌, length, take, slice_index, Option, None, Some, refl, arith, codes, length-append}
 use Rattle.std.specs.Prelude.{nat_abs}
 use Rattle.std.specs.Fmt.{decimal, signed_decimal}
+use Rattle.std.proofs.lemmas.Bool.{and_from, and_parts, cases_Bool}
 use Rattle.std.proofs.lemmas.Fmt.{decimal_by_steps_wide}
+use Rattle.hex.specs.Hex.{encode_with, lower_digits}
 use Rattle.metering_model.specs.Settings.{Settings}
 use Rattle.metering_model.specs.Records.{MeterRecord, litres_of}
 use Rattle.trace_model.specs.Output.{ends_line}
 use Rattle.trace_model.proofs.Lines.{no_lf, no_lf-append, no_lf_above, no_lf_both, ends_line-append_lf, front_of_line}
-use Rattle.journal_model.specs.Texts.{ok_text, shown}
+use Rattle.journal_model.specs.Texts.{mbus_text, ok_text, opt_text, readout_text, reply_shown, shown}
 
 -- numbers that are printed without trouble
 pub record IsPrintable (c : Settings) (r : MeterRecord) : Type 0 where
@@ -37,3 +39,54 @@ ends_line-ok_text c r = ends_line-append_lf (codes "ok " ++ shown c r)
 -- a front of an `ok` line is no output line, but where it is the whole
 pub front_of_ok_text : (c : Settings) (r : MeterRecord) (n : ℕ) → IsPrintable c r → ends_line (take n (ok_text c r)) ≡ true → take n (ok_text c r) ≡ ok_text c r
 front_of_ok_text c r n p ends = front_of_line (codes "ok " ++ shown c r) n (no_lf-shown c r p) ends
+
+-- ---- texts that are one line
+
+-- a text has its LF at its end alone: a front of it is no output line, or it is the whole
+pub record IsOneLine (text : List ℕ) : Type 0 where
+  pub ends : ends_line text ≡ true
+  pub whole_or_part : (count : ℕ) → (take count text ≡ text) ⊎ (ends_line (take count text) ≡ false)
+  pub some : 0 < length text
+
+-- bytes without LF, and one behind them
+one_line-append_lf : (xs : List ℕ) → no_lf xs ≡ true → IsOneLine (xs ++ 10 ∷ [])
+one_line-append_lf xs none = record {
+  ends = ends_line-append_lf xs;
+  whole_or_part = λ count. by_cases count (cases_Bool (ends_line (take count (xs ++ 10 ∷ []))));
+  some = omega (arith, length-append xs (10 ∷ []));
+} where
+  by_cases : (count : ℕ) → (ends_line (take count (xs ++ 10 ∷ [])) ≡ true) ⊎ (ends_line (take count (xs ++ 10 ∷ [])) ≡ false) → (take count (xs ++ 10 ∷ []) ≡ xs ++ 10 ∷ []) ⊎ (ends_line (take count (xs ++ 10 ∷ [])) ≡ false)
+  by_cases count (inl ends) = inl (front_of_line xs count none ends)
+  by_cases count (inr part) = inr part
+
+pub one_line-ok_text : (c : Settings) (r : MeterRecord) → IsPrintable c r → IsOneLine (ok_text c r)
+one_line-ok_text c r p = one_line-append_lf (codes "ok " ++ shown c r) (no_lf-shown c r p)
+
+-- ---- the texts of readouts
+
+-- a table without LF gives none at any place: outside of it 0 is read
+not_lf_at : (t : List ℕ) (i : ℕ) → no_lf t ≡ true → not (slice_index t i == 10) ≡ true
+not_lf_at [] i none = refl
+not_lf_at (c ∷ cs) zero none = (and_parts _ _ none).0
+not_lf_at (c ∷ cs) (suc i) none = not_lf_at cs i (and_parts _ _ none).1
+
+no_lf-encode_with : (t bytes : List ℕ) → no_lf t ≡ true → no_lf (encode_with t bytes) ≡ true
+unfolding encode_with
+no_lf-encode_with t [] none = refl
+no_lf-encode_with t (b ∷ rest) none = and_from _ _ (not_lf_at t (b / 16) none) (and_from _ _ (not_lf_at t (b % 16) none) (no_lf-encode_with t rest none))
+
+no_lf-reply : (reply : Option (List ℕ)) → no_lf (reply_shown reply) ≡ true
+no_lf-reply None = refl
+no_lf-reply (Some bytes) = no_lf-encode_with lower_digits bytes refl
+
+one_line-readout_text : (name : List ℕ) (r : MeterRecord) (reply : Option (List ℕ)) → no_lf name ≡ true → r.seq < 10 ^ 64 → IsOneLine (readout_text name r reply)
+one_line-readout_text name r reply none small =
+    let seq : no_lf (decimal r.seq) ≡ true = no_lf-decimal _ small in
+    let shows : no_lf (reply_shown reply) ≡ true = no_lf-reply reply in
+    one_line-append_lf (name ++ codes " " ++ decimal r.seq ++ codes " " ++ reply_shown reply) (simp (no_lf-append, none, seq, shows) refl)
+
+pub one_line-opt_text : (r : MeterRecord) (reply : Option (List ℕ)) → r.seq < 10 ^ 64 → IsOneLine (opt_text r reply)
+one_line-opt_text r reply small = one_line-readout_text (codes "opt") r reply refl small
+
+pub one_line-mbus_text : (r : MeterRecord) (reply : Option (List ℕ)) → r.seq < 10 ^ 64 → IsOneLine (mbus_text r reply)
+one_line-mbus_text r reply small = one_line-readout_text (codes "mbus") r reply refl small

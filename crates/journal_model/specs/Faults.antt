@@ -2,7 +2,12 @@
 use Rattle.std.specs.Prelude.{ℕ, ◌+◌, ◌==◌, cond, nat_lt, nat_le, List, length, Option, None, Some, Result, Ok, Err}
 use Rattle.metering_model.specs.Events.{Event, Sample, Pulse, Date}
 use Rattle.metering_model.specs.Records.{MeterRecord}
-use Rattle.script_model.specs.Grammar.{Line, Metering, line_of, max_pulses}
+use Rattle.script_model.specs.Grammar.{Line, Metering, Opt, Mbus, line_of, max_pulses}
+
+-- the commands that take a script: `dry` has no memory, and is not read out
+pub data Command : Type 0 where
+  Dry : Command
+  Run : Command
 
 pub data Fault : Type 0 where
   -- the place of the first wrong, missing or extra word
@@ -15,6 +20,8 @@ pub data Fault : Type 0 where
   PulsesFull : (sum : ℕ) → Fault
   TooLong : Fault
   TooMany : Fault
+  -- a readout, which `dry` doesn't have
+  NotDry : Fault
 
 abbrev pub max_lines : ℕ
 max_lines = 1000000
@@ -35,10 +42,16 @@ kind_fault r (Date day) = cond (nat_lt day r.day) (Some (DateBack r.day)) None
 abbrev pub event_fault : MeterRecord → Event → Option Fault
 event_fault r event = cond (r.seq == max_events) (Some (EventsFull r.seq)) (kind_fault r event)
 
-abbrev pub said_fault : MeterRecord → Result Line ℕ → Option Fault
-said_fault r (Ok (Metering event)) = event_fault r event
-said_fault r (Err place) = Some (Grammar place)
+abbrev pub readout_fault : Command → Option Fault
+readout_fault Dry = Some NotDry
+readout_fault Run = None
+
+abbrev pub said_fault : Command → MeterRecord → Result Line ℕ → Option Fault
+said_fault command r (Ok (Metering event)) = event_fault r event
+said_fault command r (Ok (Opt message)) = readout_fault command
+said_fault command r (Ok (Mbus bytes)) = readout_fault command
+said_fault command r (Err place) = Some (Grammar place)
 
 -- why the line after n lines is refused, where r is the record in force
-abbrev pub fault_of : MeterRecord → ℕ → List ℕ → Option Fault
-fault_of r n line = cond (nat_le max_lines n) (Some TooMany) (cond (nat_lt max_line_len (length line)) (Some TooLong) (said_fault r (line_of line)))
+abbrev pub fault_of : Command → MeterRecord → ℕ → List ℕ → Option Fault
+fault_of command r n line = cond (nat_le max_lines n) (Some TooMany) (cond (nat_lt max_line_len (length line)) (Some TooLong) (said_fault command r (line_of line)))

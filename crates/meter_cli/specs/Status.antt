@@ -10,10 +10,10 @@ use Rattle.meter_config.specs.declared.fault.ConfigFault.TheVariants as fault
 use Rattle.register_store.specs.declared.store_fault.StoreFault.{StoreFault}
 use Rattle.register_store.specs.declared.store_fault.StoreFault.TheVariants as store
 use Rattle.event_script.specs.declared.LineFault.{LineFault}
-use Rattle.event_script.specs.declared.LineFault.TheVariants.{Grammar, DateBack, PulsesFull, EventsFull, TooLong, TooMany}
+use Rattle.event_script.specs.declared.LineFault.TheVariants.{Grammar, DateBack, PulsesFull, EventsFull, TooLong, TooMany, NotDry}
 use Rattle.run_engine.specs.declared.Ended.{Ended}
 use Rattle.run_engine.specs.declared.Ended.TheVariants as ended
-use Rattle.run_engine.specs.Dry.{dry_opening, dry_settings}
+use Rattle.run_engine.specs.Dry.{dry_opening, dry_setup}
 use Rattle.run_engine.specs.Ran.{Ran}
 use Rattle.run_engine.specs.Run.{RunLeaves}
 use Rattle.memory_model.specs.Stored.{Stored}
@@ -53,7 +53,7 @@ memory_status store.Cut = Cut
 pub record DryLeaves (script : List ℕ) (trace : Trace) (status : Status) : Type 0 where
   pub ended : Ended
   pub is : status ≡ status_of ended
-  pub ran : Ran dry_settings dry_opening script trace ended
+  pub ran : Ran dry_setup dry_opening script trace ended
 
 -- what `run` leaves of a script at this status, by what the memory stood for at its start
 pub record RunEnds (memory : Stored) (script : List ℕ) (trace : Trace) (status : Status) : Type 0 where
@@ -83,6 +83,7 @@ IsFaultText (PulsesFull sum) text = text ≡ codes ": pulses " ++ decimal sum
 IsFaultText (EventsFull seq) text = text ≡ codes ": events " ++ decimal seq
 IsFaultText TooLong text = text ≡ codes ": too long"
 IsFaultText TooMany text = text ≡ codes ": too many"
+IsFaultText NotDry text = text ≡ codes ": not in dry"
 
 -- what a status line says of a text that is refused, with the name of the key of this number
 abbrev pub config_text : ConfigFault → List ℕ

@@ -1,14 +1,12 @@
 //! The command `init`.
-ghost use Rattle.std.specs.Prelude.{◌≡◌, ◌≢◌, ◌⊎◌, ◌↔◌, ◌≤◌, ◌<◌, ◌+◌, ◌++◌, [], Ok, Err, length, take, slice_index, IfOk, IfErr, IsErr};
+ghost use Rattle.std.specs.Prelude.{◌≡◌, ◌⊎◌, ◌≤◌, ◌<◌, ◌+◌, ◌++◌, [], Ok, Err, length, take, slice_index, IfOk, IfErr, IsErr};
 ghost use Rattle.config_model.specs.Configuration.{Configuration};
 ghost use Rattle.accept_model.specs.Accepted.{accepted};
 ghost use Rattle.memory_model.specs.Stored.{mark};
-ghost use Rattle.trace_model.specs.Trace.{Trace, IsFresh, base_of};
-ghost use Rattle.trace_model.specs.Moments.{Grew, IsPrefix, Leaves};
-ghost use Rattle.meter_config.specs.Faults.{Refuses};
+ghost use Rattle.trace_model.specs.Trace.{IsFresh, base_of};
+ghost use Rattle.trace_model.specs.Moments.{Grew, Leaves};
 ghost use Rattle.meter_config.specs.Views.{config_view};
 ghost use Rattle.billing_memory.specs.Records.{record_view};
-ghost use Rattle.meter_config.specs.declared.fault.ConfigFault.{ConfigFault};
 ghost use Rattle.meter_board.specs.Causes.{Rose};
 ghost use Rattle.register_store.specs.Formatted.{UnformattedOr};
 ghost use Rattle.meter_cli.specs.Ends.{EndsFormat, EndsText};

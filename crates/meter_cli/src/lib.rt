@@ -8,6 +8,8 @@ mod job;
 mod physics;
 mod puts;
 #[cfg(test)]
+mod readout_tests;
+#[cfg(test)]
 mod run_tests;
 mod show;
 mod show_lines;

@@ -1,5 +1,5 @@
 //! Scripts that are run over a memory, with the answers and the memories that they must leave.
-ghost use Rattle.std.specs.Prelude.{◌≡◌, ◌+◌, ◌≤◌, IfOk, length};
+ghost use Rattle.std.specs.Prelude.{◌+◌, ◌≤◌, IfOk, length};
 ghost use Rattle.trace_model.specs.Trace.{IsFresh};
 ghost use Rattle.trace_model.specs.Images.{NothingPending};
 ghost use Rattle.meter_board.specs.Sim.{sim_trace};
@@ -49,14 +49,14 @@ fn board_with(rt: &impl AllocGlobal, m: &MeterRecord) -> Result<SimBoard, Fail>
     board_over(rt, board.image())
 }
 
-fn formatted(rt: &impl AllocGlobal) -> Result<SimBoard, Fail>
+pub(crate) fn formatted(rt: &impl AllocGlobal) -> Result<SimBoard, Fail>
     ensures fresh { IfOk result (λ b. IsFresh (sim_trace b)) }
 {
     board_with(rt, &MeterRecord::opening(FIRST_DAY))
 }
 
 // What `run` answers on this board, where it must put this output.
-fn run_answers(
+pub(crate) fn run_answers(
     rt: &(impl Abort + AllocGlobal),
     board: &mut SimBoard,
     script: &str,

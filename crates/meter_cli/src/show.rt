@@ -1,8 +1,5 @@
 //! The command `show`.
-ghost use Rattle.std.specs.Prelude.{◌≡◌, ◌⊎◌, ℕ};
-ghost use Rattle.config_model.specs.Configuration.{Configuration};
-ghost use Rattle.metering_model.specs.Records.{MeterRecord};
-ghost use Rattle.memory_model.specs.Stored.{Foreign, Holds, Side, Unformatted, stored};
+ghost use Rattle.std.specs.Prelude.{◌≡◌};
 ghost use Rattle.meter_board.specs.Causes.{Rose};
 ghost use Rattle.meter_cli.specs.Ends.{EndsShow};
 ghost use Rattle.meter_cli.specs.Show.{ShowLeaves};

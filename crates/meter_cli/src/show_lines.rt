@@ -1,5 +1,5 @@
 //! The lines that show what a memory holds.
-ghost use Rattle.std.specs.Prelude.{◌≡◌, ◌<◌, ◌≤◌, ◌+◌, ◌^◌, ◌∷◌, ◌++◌, [], List, ℕ, codes, length};
+ghost use Rattle.std.specs.Prelude.{◌≡◌, ◌<◌, ◌≤◌, ◌+◌, ◌++◌, List, ℕ, codes, length};
 ghost use Rattle.journal_model.specs.Texts.{register_shown};
 ghost use Rattle.show_model.specs.Lines.{AreMonthLines, AreShowLines, AreStateLines, IsEntryLine, IsSetLine, energy_display, volume_display};
 ghost use Rattle.energy_register.specs.Register.{register_view};

@@ -170,6 +170,7 @@ fn fault_text(kind: &LineFault) -> ArrayString<STATUS_ROOM>
         LineFault::EventsFull { seq } => numbered(": events ", *seq),
         LineFault::TooLong => fixed(": too long"),
         LineFault::TooMany => fixed(": too many"),
+        LineFault::NotDry => fixed(": not in dry"),
     }
 }
 

@@ -1,5 +1,5 @@
 //! Scripts and words with the answers that they must have.
-ghost use Rattle.std.specs.Prelude.{◌≡◌, ◌≤◌, IfOk};
+ghost use Rattle.std.specs.Prelude.{◌≤◌, IfOk};
 ghost use Rattle.trace_model.specs.Trace.{IsFresh};
 ghost use Rattle.meter_board.specs.Sim.{sim_trace};
 
@@ -603,6 +603,14 @@ fn statuses_have_texts(rt: HostRuntime) -> Result<(), Fail> {
             },
             4,
             "line 1000001: too many",
+        ),
+        (
+            Status::Line {
+                n: 3,
+                kind: LineFault::NotDry,
+            },
+            4,
+            "line 3: not in dry",
         ),
         (Status::Memory, 5, "memory fault"),
         (Status::Read, 6, "read fault"),

@@ -8,13 +8,13 @@ ghost use Rattle.memory_model.specs.Stored.{Foreign, Holds, Side, Unformatted, m
 ghost use Rattle.trace_model.specs.Trace.{IsFresh, Trace, base_of};
 ghost use Rattle.trace_model.specs.Moments.{IsPrefix, Leaves};
 ghost use Rattle.trace_model.specs.Output.{PutsAlone};
-ghost use Rattle.journal_model.specs.Pairing.{NoneRefused};
-ghost use Rattle.recovery_model.specs.Settings.{settings_for};
+ghost use Rattle.pairing_model.specs.Setup.{on_memory};
+ghost use Rattle.pairing_model.specs.Pairing.{NoneRefused};
 ghost use Rattle.meter_board.specs.Causes.{Rose};
 ghost use Rattle.meter_config.specs.Faults.{Refuses};
 ghost use Rattle.meter_config.specs.declared.fault.ConfigFault.{ConfigFault};
 ghost use Rattle.register_store.specs.Formatted.{UnformattedOr};
-ghost use Rattle.run_engine.specs.Dry.{dry_opening, dry_settings};
+ghost use Rattle.run_engine.specs.Dry.{dry_opening, dry_setup};
 ghost use Rattle.meter_cli.specs.Bench.{CalcLeaves, PairLeaves, flow_text};
 ghost use Rattle.meter_cli.specs.Coef.{CoefLeaves};
 ghost use Rattle.meter_cli.specs.Command.{PutsOneLine, ReadsNothing, command_of, texts};
@@ -58,12 +58,12 @@ pub fn meter<S: Source, B: Board>(
 
     // What `run` leaves, by what the memory stood for at its start, and when it must answer Done.
     ensures run { command_of (texts words.now) ≡ Ok Job.Run → S.tells → B.tells → RunEnds (stored (base_of (B.trace board.old))) (S.left source.old) (B.trace board.new) result }
-    ensures run_complete { (c : Configuration) (o : MeterRecord) (side : Side) → command_of (texts words.now) ≡ Ok Job.Run → S.tells → B.tells → stored (base_of (B.trace board.old)) ≡ Holds c o side → NoneRefused (settings_for c) o (lines_of (S.left source.old)) → ¬ Rose (S.faults source.old) (S.faults source.new) → ¬ Rose (B.memory_faults board.old) (B.memory_faults board.new) → ¬ Rose (B.output_faults board.old) (B.output_faults board.new) → ¬ Rose (B.cuts board.old) (B.cuts board.new) → (result ≡ Status.Done) ⊎ (result ≡ Status.OutOfMemory) }
+    ensures run_complete { (c : Configuration) (o : MeterRecord) (side : Side) → command_of (texts words.now) ≡ Ok Job.Run → S.tells → B.tells → stored (base_of (B.trace board.old)) ≡ Holds c o side → NoneRefused (on_memory c) o (lines_of (S.left source.old)) → ¬ Rose (S.faults source.old) (S.faults source.new) → ¬ Rose (B.memory_faults board.old) (B.memory_faults board.new) → ¬ Rose (B.output_faults board.old) (B.output_faults board.new) → ¬ Rose (B.cuts board.old) (B.cuts board.new) → (result ≡ Status.Done) ⊎ (result ≡ Status.OutOfMemory) }
     ensures run_end { command_of (texts words.now) ≡ Ok Job.Run → S.tells → B.tells → result ≡ Status.Done → S.left source.new ≡ [] }
 
     // What `dry` leaves, and when it must answer Done.
     ensures dry { command_of (texts words.now) ≡ Ok Job.Dry → S.tells → B.tells → DryLeaves (S.left source.old) (B.trace board.new) result }
-    ensures complete { command_of (texts words.now) ≡ Ok Job.Dry → S.tells → B.tells → NoneRefused dry_settings dry_opening (lines_of (S.left source.old)) → ¬ Rose (S.faults source.old) (S.faults source.new) → ¬ Rose (B.output_faults board.old) (B.output_faults board.new) → (result ≡ Status.Done) ⊎ (result ≡ Status.OutOfMemory) }
+    ensures complete { command_of (texts words.now) ≡ Ok Job.Dry → S.tells → B.tells → NoneRefused dry_setup dry_opening (lines_of (S.left source.old)) → ¬ Rose (S.faults source.old) (S.faults source.new) → ¬ Rose (B.output_faults board.old) (B.output_faults board.new) → (result ≡ Status.Done) ⊎ (result ≡ Status.OutOfMemory) }
     ensures end { command_of (texts words.now) ≡ Ok Job.Dry → S.tells → B.tells → result ≡ Status.Done → S.left source.new ≡ [] }
 
     // What `init` answers to its text and leaves. A text that is refused, or was not read, touches no board.

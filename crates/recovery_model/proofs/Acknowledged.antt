@@ -1,32 +1,45 @@
 -- No output line shows more events than were kept.
-use Rattle.std.proofs.Common.{◌≡◌, ℕ, ◌+◌, ◌^◌, ◌≤◌, ◌<◌, List, [], ◌∷◌, length, Some, sym, ap, ◌∙◌, arith, length-append}
-use Rattle.metering_model.specs.Events.{Kept}
-use Rattle.metering_model.specs.Settings.{Settings}
-use Rattle.metering_model.specs.Records.{MeterRecord, record_after}
+use Rattle.std.proofs.Common.{◌≡◌, ◌⊎◌, inl, inr, ℕ, ◌+◌, ◌^◌, ◌≤◌, ◌<◌, List, [], ◌∷◌, length, Option, None, Some, sym, ap, ◌∙◌, arith, length-append}
+use Rattle.metering_model.specs.Records.{MeterRecord}
 use Rattle.trace_model.specs.Output.{OutputLine}
-use Rattle.script_model.specs.Grammar.{Line, Metering}
-use Rattle.journal_model.specs.Texts.{ok_text}
-use Rattle.journal_model.specs.Pairing.{Pairs, Replies}
-use Rattle.journal_model.proofs.Pairs.{pairs-grow}
+use Rattle.script_model.specs.Grammar.{Line, Metering, Opt, Mbus}
+use Rattle.journal_model.specs.Texts.{mbus_text}
+use Rattle.pairing_model.specs.Setup.{Setup, settings_in}
+use Rattle.pairing_model.specs.Journal.{Journal, in_force}
+use Rattle.pairing_model.specs.Pairing.{IgnoresBytes, Pairs, Replies, RepliesToFrame}
+use Rattle.pairing_model.proofs.Pairs.{pairs-grow}
 use Rattle.recovery_model.specs.Shown.{ShowAtMost, number_shown}
-use Rattle.recovery_model.proofs.Shown.{number_shown-ok_text}
-
--- an answer is the `ok` line of the record with its event
-answer_text : (c : Settings) (o : MeterRecord) (old : List Kept) (said : Line) (output : OutputLine) (new : List Kept) → Replies c o old said output new → output.text ≡ ok_text c (record_after c o new)
-answer_text c o old (Metering event) output new reply = reply.text
+use Rattle.recovery_model.proofs.Shown.{number_shown-mbus_text, number_shown-ok_text, number_shown-opt_text}
 
 same_number : (a b : ℕ) → Some a ≡ Some b → a ≡ b
 same_number a b e = cc
 
-shows_number : (c : Settings) (o : MeterRecord) (text : List ℕ) (ks : List Kept) (k : ℕ) → o.seq + length ks < 10 ^ 64 → text ≡ ok_text c (record_after c o ks) → number_shown text ≡ Some k → k ≡ o.seq + length ks
-shows_number c o text ks k small is shows =
-    same_number k (o.seq + length ks) (sym shows ∙ ap number_shown is ∙ number_shown-ok_text c (record_after c o ks) small)
+-- a text that shows the record in force of a journal shows its number of events
+shows_number : (s : Setup) (o : MeterRecord) (j : Journal) (text : List ℕ) (k : ℕ) → number_shown text ≡ Some (in_force s o j).seq → number_shown text ≡ Some k → k ≡ o.seq + length j.kept
+shows_number s o j text k is shows = same_number k (o.seq + length j.kept) (sym shows ∙ is)
 
-pub show_at_most : (c : Settings) (o : MeterRecord) (n : ℕ) (old : List Kept) (lines : List (List ℕ)) (outputs : List OutputLine) (new : List Kept) (events : ℕ) → Pairs c o n old lines outputs new → o.seq + length new ≤ events → events < 10 ^ 64 → ShowAtMost events outputs
-show_at_most c o n old lines [] new events pairs most small = tt
-show_at_most c o n old [] (a ∷ more) new events pairs most small = absurd pairs
-show_at_most c o n old (l ∷ ls) (a ∷ more) new events pairs most small =
-    let later = pairs-grow c o (n + 1) pairs.0 ls more new pairs.2 in
-    let counted : length new ≡ length pairs.0 + length later.0 = ap length later.1 ∙ length-append pairs.0 later.0 in
-    let text = answer_text c o old pairs.1.said a pairs.0 pairs.1.reply in
-    ((λ k shows. omega (arith, shows_number c o a.text pairs.0 k (omega (arith, counted)) text shows, counted)), show_at_most c o (n + 1) pairs.0 ls more new events pairs.2 most small)
+-- an `mbus` line shows the events kept before it, and keeps none
+mbus_shows : (s : Setup) (o : MeterRecord) (old : Journal) (reply : Option (List ℕ)) (text : List ℕ) (new : Journal) (k : ℕ) → text ≡ mbus_text (in_force s o old) reply → new.kept ≡ old.kept → o.seq + length new.kept < 10 ^ 64 → number_shown text ≡ Some k → k ≤ o.seq + length new.kept
+mbus_shows s o old reply text new k is keeps small shows =
+    let same : length new.kept ≡ length old.kept = ap length keeps in
+    omega (arith, same, shows_number s o old text k (ap number_shown is ∙ number_shown-mbus_text (in_force s o old) reply (omega (arith, same))) shows)
+
+-- an answer shows no more events than are kept with it: an `ok` line all of them, a readout those before it
+answer_shows : (s : Setup) (o : MeterRecord) (old : Journal) (said : Line) (text : List ℕ) (new : Journal) (k : ℕ) → Replies s o old said text new → o.seq + length new.kept < 10 ^ 64 → number_shown text ≡ Some k → k ≤ o.seq + length new.kept
+answer_shows s o old (Metering event) text new k reply small shows =
+    omega (arith, shows_number s o new text k (ap number_shown reply.shows ∙ number_shown-ok_text (settings_in s) (in_force s o new) small) shows)
+answer_shows s o old (Opt message) text new k reply small shows =
+    let same : length new.kept ≡ length old.kept = ap (λ (j : Journal). length j.kept) reply.hears in
+    omega (arith, same, shows_number s o old text k (ap number_shown reply.shows ∙ number_shown-opt_text (in_force s o old) reply.reply (omega (arith, same))) shows)
+answer_shows s o old (Mbus bytes) text new k reply small shows = by_cases reply where
+  by_cases : RepliesToFrame s o old bytes text new ⊎ IgnoresBytes s o old bytes text new → k ≤ o.seq + length new.kept
+  by_cases (inl r) = mbus_shows s o old _ text new k r.shows (ap (λ (j : Journal). j.kept) r.hears) small shows
+  by_cases (inr r) = mbus_shows s o old None text new k r.shows (ap (λ (j : Journal). j.kept) r.hears) small shows
+
+pub show_at_most : (s : Setup) (o : MeterRecord) (n : ℕ) (old : Journal) (lines : List (List ℕ)) (outputs : List OutputLine) (new : Journal) (events : ℕ) → Pairs s o n old lines outputs new → o.seq + length new.kept ≤ events → events < 10 ^ 64 → ShowAtMost events outputs
+show_at_most s o n old lines [] new events pairs most small = tt
+show_at_most s o n old [] (a ∷ more) new events pairs most small = absurd pairs
+show_at_most s o n old (l ∷ ls) (a ∷ more) new events pairs most small =
+    let later = pairs-grow s o (n + 1) pairs.0 ls more new pairs.2 in
+    let counted : length new.kept ≡ length pairs.0.kept + length later.0 = ap length later.1 ∙ length-append pairs.0.kept later.0 in
+    ((λ k shows. omega (arith, counted, answer_shows s o old pairs.1.said a.text pairs.0 k pairs.1.reply (omega (arith, counted)) shows)), show_at_most s o (n + 1) pairs.0 ls more new events pairs.2 most small)

@@ -1,17 +1,17 @@
--- An `ok` line shows the number of events of its record.
+-- An output line shows the number of events of its record.
 use Rattle.std.proofs.Common.{◌≡◌, ℕ, ◌+◌, ◌-◌, ◌*◌, ◌/◌, ◌%◌, ◌^◌, ◌<◌, ◌≤◌, ◌==◌, true, false, not, cond, List, [], ◌∷◌, ◌++◌, length, get_or, Option, None, Some, refl, ap, ◌∙◌, arith, codes, append_assoc, length-append, suc, zero}
 use Rattle.std.specs.List.{All}
 use Rattle.std.specs.Prelude.{option_and_then, slice_get}
 use Rattle.std.proofs.lemmas.Bool.{and_from, and_parts, le-leb, ne_eqb}
 use Rattle.std.proofs.lemmas.Fmt.{decimal_by_steps_wide}
-use Rattle.std.proofs.lemmas.List.Elements.{All-append, All-cons}
+use Rattle.std.proofs.lemmas.List.Elements.{All-append, All-cons, All-from_recursion}
 use Rattle.std.proofs.lemmas.List.Splits.{slice_split_at}
 use Rattle.std.specs.Fmt.{decimal, signed_decimal}
 use Rattle.metering_model.specs.Settings.{Settings}
 use Rattle.metering_model.specs.Records.{MeterRecord, litres_of}
 use Rattle.script_model.specs.Lines.{words_of}
 use Rattle.script_model.specs.Numbers.{all_digits, is_digit, is_number, value_after}
-use Rattle.journal_model.specs.Texts.{ok_text}
+use Rattle.journal_model.specs.Texts.{mbus_text, ok_text, opt_text, readout_text, reply_shown}
 use Rattle.recovery_model.specs.Shown.{number_of, number_shown}
 
 -- how a number is written
@@ -73,7 +73,7 @@ is_number_from n (c ∷ []) w = (and_parts _ _ w.digits).0
 is_number_from zero (c ∷ d ∷ ds) w = absurd (omega (arith, w.single refl))
 is_number_from (suc n) (c ∷ d ∷ ds) w = and_from _ _ (ap not (w.lead (omega arith))) w.digits
 
--- ---- the second word of an `ok` line
+-- ---- the second word of an output line
 
 number_of-decimal : (n : ℕ) → n < 10 ^ 64 → number_of (decimal n) ≡ Some n
 number_of-decimal n small =
@@ -84,12 +84,35 @@ second_word : (first second rest : List ℕ) → All (λ d. (d == 32) ≡ false)
 second_word first second rest p q =
     ap (λ (ws : List (List ℕ)). slice_get ws 1) (slice_split_at (λ c. c == 32) first 32 (second ++ 32 ∷ rest) p refl ∙ ap (λ (ws : List (List ℕ)). first ∷ ws) (slice_split_at (λ c. c == 32) second 32 rest q refl))
 
+-- a number behind a name
+number_shown-named : (name : List ℕ) (n : ℕ) (rest : List ℕ) → All (λ d. (d == 32) ≡ false) name → n < 10 ^ 64 → number_shown (name ++ 32 ∷ (decimal n ++ 32 ∷ rest)) ≡ Some n
+number_shown-named name n rest word small =
+    ap (λ (w : Option (List ℕ)). option_and_then number_of w) (second_word name (decimal n) rest word (written n small).no_space) ∙ number_of-decimal n small
+
+-- no name has a space
 ok_word : All (λ d. (d == 32) ≡ false) (codes "ok")
-ok_word = All-cons (λ d. (d == 32) ≡ false) 111 (107 ∷ []) refl (All-cons (λ d. (d == 32) ≡ false) 107 [] refl (λ k d lt. absurd (omega arith)))
+ok_word = All-from_recursion (λ d. (d == 32) ≡ false) (codes "ok") (refl, (refl, tt))
+
+opt_word : All (λ d. (d == 32) ≡ false) (codes "opt")
+opt_word = All-from_recursion (λ d. (d == 32) ≡ false) (codes "opt") (refl, (refl, (refl, tt)))
+
+mbus_word : All (λ d. (d == 32) ≡ false) (codes "mbus")
+mbus_word = All-from_recursion (λ d. (d == 32) ≡ false) (codes "mbus") (refl, (refl, (refl, (refl, tt))))
 
 pub number_shown-ok_text : (c : Settings) (r : MeterRecord) → r.seq < 10 ^ 64 → number_shown (ok_text c r) ≡ Some r.seq
 number_shown-ok_text c r small =
     let rest = decimal (litres_of c r.register) ++ codes " " ++ signed_decimal r.register.energy_mj ++ codes " " ++ decimal r.register.bound_mj ++ codes "\n" in
     let text : ok_text c r ≡ codes "ok" ++ 32 ∷ (decimal r.seq ++ 32 ∷ rest) = simp append_assoc refl in
-    let second = ap (λ (t : List ℕ). slice_get (words_of t) 1) text ∙ second_word (codes "ok") (decimal r.seq) rest ok_word (written r.seq small).no_space in
-    ap (λ (w : Option (List ℕ)). option_and_then number_of w) second ∙ number_of-decimal r.seq small
+    ap number_shown text ∙ number_shown-named (codes "ok") r.seq rest ok_word small
+
+number_shown-readout_text : (name : List ℕ) (r : MeterRecord) (reply : Option (List ℕ)) → All (λ d. (d == 32) ≡ false) name → r.seq < 10 ^ 64 → number_shown (readout_text name r reply) ≡ Some r.seq
+number_shown-readout_text name r reply word small =
+    let rest = reply_shown reply ++ codes "\n" in
+    let text : readout_text name r reply ≡ name ++ 32 ∷ (decimal r.seq ++ 32 ∷ rest) = simp append_assoc refl in
+    ap number_shown text ∙ number_shown-named name r.seq rest word small
+
+pub number_shown-opt_text : (r : MeterRecord) (reply : Option (List ℕ)) → r.seq < 10 ^ 64 → number_shown (opt_text r reply) ≡ Some r.seq
+number_shown-opt_text r reply small = number_shown-readout_text (codes "opt") r reply opt_word small
+
+pub number_shown-mbus_text : (r : MeterRecord) (reply : Option (List ℕ)) → r.seq < 10 ^ 64 → number_shown (mbus_text r reply) ≡ Some r.seq
+number_shown-mbus_text r reply small = number_shown-readout_text (codes "mbus") r reply mbus_word small

@@ -5,7 +5,7 @@ use Rattle.metering_model.specs.Records.{MeterRecord, StandsFor}
 use Rattle.metering_model.specs.Integral.{IsChoice, IsNear, Temps, counted_litres, exact_integral}
 use Rattle.config_model.specs.Configuration.{Configuration}
 use Rattle.memory_model.specs.Stored.{Side, Holds, stored}
-use Rattle.recovery_model.specs.Settings.{settings_for}
+use Rattle.pairing_model.specs.Settings.{settings_for}
 
 -- The energy that the record has more than the opening record o differs from the exact integral over the events, if these
 -- were the temperatures, by at most the bound that it has more than o, and by at most 600 mJ a counted litre. That bound is

@@ -1,4 +1,3 @@
-pub mod Settings
 pub mod Shown
 pub mod Right
 pub mod Bounded

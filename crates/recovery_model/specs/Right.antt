@@ -1,7 +1,6 @@
 -- What the memory of a meter must hold at each moment of a run, whatever the power does.
 use Rattle.std.specs.Prelude.{◌≡◌, ◌⊎◌, ℕ, ◌≤◌, ℤ, List, [], ◌∷◌, ◌++◌, length, None, Some, Ok, IsTrue, slice_get}
 use Rattle.metering_model.specs.Events.{Event, Kept}
-use Rattle.metering_model.specs.Settings.{Settings}
 use Rattle.metering_model.specs.Records.{MeterRecord, StandsFor, record_after}
 use Rattle.metering_model.specs.Integral.{AllFitWithMargin}
 use Rattle.script_model.specs.Grammar.{Metering, line_of}
@@ -11,21 +10,23 @@ use Rattle.trace_model.specs.Moments.{Leaves}
 use Rattle.config_model.specs.Configuration.{Configuration}
 use Rattle.memory_model.specs.Stored.{Side, Holds, stored}
 use Rattle.journal_model.specs.Faults.{fault_of}
-use Rattle.journal_model.specs.Pairing.{Pairs}
-use Rattle.recovery_model.specs.Settings.{settings_for}
+use Rattle.pairing_model.specs.Settings.{settings_for}
+use Rattle.pairing_model.specs.Setup.{Setup, on_memory, settings_in}
+use Rattle.pairing_model.specs.Journal.{Journal, at_start}
+use Rattle.pairing_model.specs.Pairing.{Pairs}
 use Rattle.recovery_model.specs.Shown.{ShowAtMost, number_shown}
 
 -- the line after n lines is a metering event that the record in force takes
-pub record NextIsEvent (c : Settings) (o : MeterRecord) (lines : List (List ℕ)) (kept : List Kept) (n : ℕ) (event : Event) : Type 0 where
+pub record NextIsEvent (s : Setup) (o : MeterRecord) (lines : List (List ℕ)) (kept : List Kept) (n : ℕ) (event : Event) : Type 0 where
   pub line : List ℕ
   pub place : slice_get lines n ≡ Some line
   pub says : line_of line ≡ Ok (Metering event)
-  pub taken : fault_of (record_after c o kept) n line ≡ None
+  pub taken : fault_of s.command (record_after (settings_in s) o kept) n line ≡ None
 
 -- the record stands for the events kept and one more, that of the next line, which is under way
 pub record StandsForNext (c : Configuration) (o : MeterRecord) (lines : List (List ℕ)) (kept : List Kept) (n : ℕ) (held : MeterRecord) : Type 0 where
   pub event : Event
-  pub next : NextIsEvent (settings_for c) o lines kept n event
+  pub next : NextIsEvent (on_memory c) o lines kept n event
   pub energy_mj : ℤ
   pub bound_mj : ℕ
   pub fits : AllFitWithMargin (settings_for c) o (kept ++ record { event = event; energy_mj = energy_mj; bound_mj = bound_mj } ∷ [])
@@ -35,24 +36,24 @@ pub record StandsForNext (c : Configuration) (o : MeterRecord) (lines : List (Li
 -- opening record o and the events kept so far, or for these and the one that is under way. The output lines pair with the
 -- first lines, the events that they keep fit with margin, and none shows more events than the record has.
 pub record IsRight (c : Configuration) (o : MeterRecord) (lines : List (List ℕ)) (moment : Trace) (image : List ℕ) : Type 0 where
-  pub kept : List Kept
-  pub pairs : Pairs (settings_for c) o 0 [] lines (output_lines moment) kept
-  pub fits : AllFitWithMargin (settings_for c) o kept
+  pub journal : Journal
+  pub pairs : Pairs (on_memory c) o 0 at_start lines (output_lines moment) journal
+  pub fits : AllFitWithMargin (settings_for c) o journal.kept
   pub held : MeterRecord
   pub side : Side
   pub holds : stored image ≡ Holds c held side
-  pub stands : StandsFor (settings_for c) o kept held ⊎ StandsForNext c o lines kept (length (output_lines moment)) held
+  pub stands : StandsFor (settings_for c) o journal.kept held ⊎ StandsForNext c o lines journal.kept (length (output_lines moment)) held
   pub opening : o.seq ≤ held.seq
   pub acknowledged : ShowAtMost held.seq (output_lines moment)
 
 -- the memory holds the configuration, and the record that stands for all events that the output lines keep
 pub record HoldsKept (c : Configuration) (o : MeterRecord) (lines : List (List ℕ)) (moment : Trace) (image : List ℕ) : Type 0 where
-  pub kept : List Kept
-  pub pairs : Pairs (settings_for c) o 0 [] lines (output_lines moment) kept
+  pub journal : Journal
+  pub pairs : Pairs (on_memory c) o 0 at_start lines (output_lines moment) journal
   pub held : MeterRecord
   pub side : Side
   pub holds : stored image ≡ Holds c held side
-  pub stands : StandsFor (settings_for c) o kept held
+  pub stands : StandsFor (settings_for c) o journal.kept held
 
 -- and the output line shows its events
 pub record HoldsShown (c : Configuration) (o : MeterRecord) (lines : List (List ℕ)) (moment : Trace) (text : List ℕ) (image : List ℕ) : Type 0 where

@@ -13,7 +13,7 @@ use Rattle.config_model.specs.Configuration.{Configuration, is_sensor}
 use Rattle.memory_model.specs.Stored.{Side, Holds, stored}
 use Rattle.trace_model.specs.Trace.{Trace}
 use Rattle.trace_model.specs.Output.{output_lines}
-use Rattle.recovery_model.specs.Settings.{settings_for}
+use Rattle.pairing_model.specs.Settings.{settings_for}
 use Rattle.recovery_model.specs.Bounded.{HoldsBounded, IsWithinBound}
 use Rattle.recovery_model.specs.Right.{IsRight, StandsForNext}
 use Rattle.recovery_model.proofs.Held.{held_sensor}
@@ -54,6 +54,6 @@ module _ (c : Configuration) (o : MeterRecord) (image : List ℕ) (held : MeterR
 
 pub right_bounded : (c : Configuration) (o : MeterRecord) (lines : List (List ℕ)) (moment : Trace) (image : List ℕ) → IsRight c o lines moment image → HoldsBounded c o image
 right_bounded c o lines moment image r = by_cases r.stands where
-  by_cases : StandsFor (settings_for c) o r.kept r.held ⊎ StandsForNext c o lines r.kept (length (output_lines moment)) r.held → HoldsBounded c o image
-  by_cases (inl stands) = bounded c o image r.held r.side r.holds r.kept stands r.fits
-  by_cases (inr next) = bounded c o image r.held r.side r.holds (r.kept ++ record { event = next.event; energy_mj = next.energy_mj; bound_mj = next.bound_mj } ∷ []) next.stands next.fits
+  by_cases : StandsFor (settings_for c) o r.journal.kept r.held ⊎ StandsForNext c o lines r.journal.kept (length (output_lines moment)) r.held → HoldsBounded c o image
+  by_cases (inl stands) = bounded c o image r.held r.side r.holds r.journal.kept stands r.fits
+  by_cases (inr next) = bounded c o image r.held r.side r.holds (r.journal.kept ++ record { event = next.event; energy_mj = next.energy_mj; bound_mj = next.bound_mj } ∷ []) next.stands next.fits

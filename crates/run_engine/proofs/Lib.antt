@@ -1,9 +1,13 @@
 pub mod Moments
 pub mod Runs
 pub mod Whole
+pub mod DryRuns
 pub mod Complete
 pub mod Nothing
 pub mod OnMemory
+pub mod GoesOut
 pub mod RunsOnMemory
+pub mod Readouts
+pub mod Leads
 pub mod WholeOnMemory
 pub mod Bounded

@@ -1,8 +1,6 @@
 -- A run was right at each moment.
 use Rattle.std.proofs.Common.{◌≡◌, Bool, true, false, cond, inl, inr, List, [], ◌∷◌, ◌++◌, append_assoc, ap, sym, subst, ◌∙◌}
 use Rattle.std.proofs.lemmas.List.{append-nil}
-use Rattle.metering_model.specs.Events.{Kept}
-use Rattle.metering_model.specs.Settings.{Settings}
 use Rattle.metering_model.specs.Records.{MeterRecord}
 use Rattle.metering_model.specs.Integral.{AllFitWithMargin}
 use Rattle.metering_model.proofs.Joined.{fit-front}
@@ -10,8 +8,10 @@ use Rattle.script_model.specs.Lines.{lines_of}
 use Rattle.trace_model.specs.Trace.{Trace, Start, ◌▷◌}
 use Rattle.trace_model.specs.Output.{OutputLine, bytes_put, is_output_line, output_lines, open_segment}
 use Rattle.trace_model.specs.Moments.{IsPrefix}
-use Rattle.journal_model.specs.Pairing.{Pairs}
-use Rattle.journal_model.proofs.Pairs.{pairs-front}
+use Rattle.pairing_model.specs.Setup.{Setup, settings_in}
+use Rattle.pairing_model.specs.Journal.{Journal, at_start}
+use Rattle.pairing_model.specs.Pairing.{Pairs}
+use Rattle.pairing_model.proofs.Pairs.{pairs-front}
 use Rattle.run_engine.specs.Ran.{Metered}
 use Rattle.std.specs.Prelude.{ℕ}
 
@@ -28,9 +28,9 @@ outputs-front p (t ▷ e) (inr earlier) = by_kind (is_output_line e) (outputs-fr
       (found.0 ++ last, ap (λ outputs. outputs ++ last) found.1 ∙ append_assoc (output_lines p) found.0 last)
 
 -- what pairs and fits at the end did so at each moment
-pub moments_of : (c : Settings) (o : MeterRecord) (script : List ℕ) (t : Trace) (kept : List Kept) → Pairs c o 0 [] (lines_of script) (output_lines t) kept → AllFitWithMargin c o kept
-    → (p : Trace) → IsPrefix p t → Metered c o script p
-moments_of c o script t kept pairs fits p is =
+pub moments_of : (s : Setup) (o : MeterRecord) (script : List ℕ) (t : Trace) (j : Journal) → Pairs s o 0 at_start (lines_of script) (output_lines t) j → AllFitWithMargin (settings_in s) o j.kept
+    → (p : Trace) → IsPrefix p t → Metered s o script p
+moments_of s o script t j pairs fits p is =
     let outputs = outputs-front p t is in
-    let front = pairs-front c o 0 [] (lines_of script) (output_lines p) outputs.0 kept (subst (λ (all : List OutputLine). Pairs c o 0 [] (lines_of script) all kept) outputs.1 pairs) in
-    record { kept = front.kept; pairs = front.pairs; fits = fit-front c o front.kept front.after (subst (AllFitWithMargin c o) front.is fits) }
+    let front = pairs-front s o 0 at_start (lines_of script) (output_lines p) outputs.0 j (subst (λ (all : List OutputLine). Pairs s o 0 at_start (lines_of script) all j) outputs.1 pairs) in
+    record { journal = front.journal; pairs = front.pairs; fits = fit-front (settings_in s) o front.journal.kept front.after (subst (AllFitWithMargin (settings_in s) o) front.is fits) }

@@ -9,7 +9,7 @@ use Rattle.metering_model.specs.Settings.{Settings}
 use Rattle.metering_model.specs.Records.{StandsFor, record_after}
 use Rattle.metering_model.specs.Records as records
 use Rattle.config_model.specs.Configuration.{is_pulse}
-use Rattle.recovery_model.specs.Settings.{settings_for}
+use Rattle.pairing_model.specs.Settings.{settings_for}
 use Rattle.pt_curve.specs.declared.sensor.Sensor.{Sensor}
 use Rattle.pt_curve.specs.declared.sensor.Sensor.TheVariants.{Pt100, Pt500, Pt1000}
 use Rattle.pt_curve.specs.Curve.{nominal_r0}

@@ -5,35 +5,34 @@ use Rattle.std.specs.List.{list_all}
 use Rattle.std.proofs.lemmas.Bool.{both_ways}
 use Rattle.std.proofs.lemmas.List.Elements.{All-cons, All-head, All-tail}
 use Rattle.std.proofs.lemmas.List.Sums.{sum_by-append}
-use Rattle.metering_model.specs.Events.{Event, Kept}
+use Rattle.metering_model.specs.Events.{Event}
 use Rattle.metering_model.specs.Records.{MeterRecord, StandsFor}
 use Rattle.metering_model.specs.Integral.{AllFitWithMargin}
 use Rattle.script_model.specs.Lines.{lines_of}
 use Rattle.script_model.specs.Grammar.{Metering}
 use Rattle.trace_model.specs.Trace.{Entry, Store, Sync, Missed, Put, Arm, Cut, Trace, ◌▷◌}
-use Rattle.trace_model.specs.Images.{IsImage, NothingPending}
-use Rattle.trace_model.specs.Output.{OutputLine, ends_line, is_output_line, output_lines, open_segment}
+use Rattle.trace_model.specs.Output.{OutputLine, is_output_line, output_lines, open_segment}
 use Rattle.trace_model.specs.Moments.{IsPrefix, Leaves}
-use Rattle.trace_model.proofs.Images.{before_put, one_image}
-use Rattle.trace_model.proofs.Lines.{open_segment-piece, output_lines-piece}
+use Rattle.trace_model.proofs.Images.{one_image}
 use Rattle.trace_model.proofs.Moments.{Grew-prefix, Grew-weaker, IsPrefix-self}
 use Rattle.config_model.specs.Configuration.{Configuration}
+use Rattle.journal_model.specs.Faults.{Run}
 use Rattle.memory_model.specs.Stored.{Side, Holds}
-use Rattle.journal_model.specs.Texts.{ok_text}
-use Rattle.journal_model.specs.Pairing.{Pairs, may_stand}
-use Rattle.recovery_model.specs.Settings.{settings_for}
-use Rattle.recovery_model.specs.Shown.{number_shown}
+use Rattle.pairing_model.specs.Settings.{settings_for}
+use Rattle.pairing_model.specs.Setup.{on_memory}
+use Rattle.pairing_model.specs.Journal.{Journal, at_start}
+use Rattle.pairing_model.specs.Pairing.{Pairs, may_stand}
 use Rattle.recovery_model.specs.Right.{HeldBefore, HoldsKept, IsRight, NextIsEvent, StandsForNext}
 use Rattle.recovery_model.proofs.Acknowledged.{show_at_most}
-use Rattle.recovery_model.proofs.Shown.{number_shown-ok_text}
 use Rattle.register_store.specs.Commits as commits
 use Rattle.register_store.specs.Commits.{HoldsEither, other}
 use Rattle.register_store.specs.Works.{is_store, is_sync, is_forced_cut, is_other}
 use Rattle.register_store.proofs.MemoryAlone.{MemoryAlone, FrontAlone, MemoryStretch, front_counts, memory_alone, no_line, with_entries}
 use Rattle.run_engine.specs.Run.{IsSound}
-use Rattle.run_engine.specs.Steps.{Commits, Committed}
+use Rattle.run_engine.specs.Going.{Between, Going}
+use Rattle.run_engine.specs.Steps.{Commits}
 use Rattle.run_engine.specs.Takes.{TakesLine}
-use Rattle.run_engine.proofs.Runs.{Going, Reached, line_at, next_fits, next_stands, next_taken}
+use Rattle.run_engine.proofs.Runs.{Reached, line_at, next_fits, next_stands, taken_at}
 
 -- ---- the entries of a stretch
 
@@ -68,23 +67,15 @@ module _ (c : Configuration) (o : MeterRecord) (script : List ℕ) where
   held_before_with t (e ∷ es) own here =
       held_before_with (t ▷ e) es (All-tail (λ (d : Entry). is_other d ≡ false) e es own) (λ ends. absurd (both_ways (is_output_line e) (no_line e (All-head (λ (d : Entry). is_other d ≡ false) e es own)) ends))
 
-  -- n lines have their answers, these bytes are left, the memory holds r on this side, and nothing is pending; so far all was sound
-  pub record Between (rest : List ℕ) (n : ℕ) (r : MeterRecord) (side : Side) (reads : List ℕ) (t : Trace) : Type 0 where
-    pub going : Going (settings_for c) o script rest n r t
-    pub settled : NothingPending t
-    pub possible : IsImage t reads
-    pub holds : commits.StandsFor (Holds c r side) reads
-    pub sound : (p : Trace) → IsPrefix p t → IsSound c o (lines_of script) p
-
   -- ---- what is right at a moment p
 
-  module _ (p : Trace) (image : List ℕ) (kept : List Kept) (held : MeterRecord) (side : Side) (pairs : Pairs (settings_for c) o 0 [] (lines_of script) (output_lines p) kept) (fits : AllFitWithMargin (settings_for c) o kept) (small : held.seq < 10 ^ 64)
+  module _ (p : Trace) (image : List ℕ) (j : Journal) (held : MeterRecord) (side : Side) (pairs : Pairs (on_memory c) o 0 at_start (lines_of script) (output_lines p) j) (fits : AllFitWithMargin (settings_for c) o j.kept) (small : held.seq < 10 ^ 64)
       (holds : commits.StandsFor (Holds c held side) image) where
-    pub kept_right : StandsFor (settings_for c) o kept held → IsRight c o (lines_of script) p image
+    pub kept_right : StandsFor (settings_for c) o j.kept held → IsRight c o (lines_of script) p image
     kept_right stands =
-        let counted : held.seq ≡ o.seq + length kept = ap (λ (m : MeterRecord). m.seq) stands.is in
+        let counted : held.seq ≡ o.seq + length j.kept = ap (λ (m : MeterRecord). m.seq) stands.is in
         record {
-          kept = kept;
+          journal = j;
           pairs = pairs;
           fits = fits;
           held = held;
@@ -92,16 +83,16 @@ module _ (c : Configuration) (o : MeterRecord) (script : List ℕ) where
           holds = holds;
           stands = inl stands;
           opening = omega (arith, counted);
-          acknowledged = show_at_most (settings_for c) o 0 [] (lines_of script) (output_lines p) kept held.seq pairs (omega (arith, counted)) small;
+          acknowledged = show_at_most (on_memory c) o 0 at_start (lines_of script) (output_lines p) j held.seq pairs (omega (arith, counted)) small;
         }
 
-    next_right : StandsForNext c o (lines_of script) kept (length (output_lines p)) held → IsRight c o (lines_of script) p image
+    next_right : StandsForNext c o (lines_of script) j.kept (length (output_lines p)) held → IsRight c o (lines_of script) p image
     next_right next =
         let more = record { event = next.event; energy_mj = next.energy_mj; bound_mj = next.bound_mj } ∷ [] in
-        let counted : held.seq ≡ o.seq + length (kept ++ more) = ap (λ (m : MeterRecord). m.seq) next.stands.is in
-        let longer : length (kept ++ more) ≡ length kept + 1 = length-append kept more in
+        let counted : held.seq ≡ o.seq + length (j.kept ++ more) = ap (λ (m : MeterRecord). m.seq) next.stands.is in
+        let longer : length (j.kept ++ more) ≡ length j.kept + 1 = length-append j.kept more in
         record {
-          kept = kept;
+          journal = j;
           pairs = pairs;
           fits = fits;
           held = held;
@@ -109,13 +100,13 @@ module _ (c : Configuration) (o : MeterRecord) (script : List ℕ) where
           holds = holds;
           stands = inr next;
           opening = omega (arith, counted);
-          acknowledged = show_at_most (settings_for c) o 0 [] (lines_of script) (output_lines p) kept held.seq pairs (omega (arith, counted, longer)) small;
+          acknowledged = show_at_most (on_memory c) o 0 at_start (lines_of script) (output_lines p) j held.seq pairs (omega (arith, counted, longer)) small;
         }
 
   -- where all that was kept is held
-  pub between_holds : (rest : List ℕ) (n : ℕ) (r : MeterRecord) (side : Side) (reads : List ℕ) (t : Trace) → Between rest n r side reads t → Leaves (HoldsKept c o (lines_of script) t) t
-  between_holds rest n r side reads t b image of = record {
-    kept = b.going.kept;
+  pub between_holds : (rest : List ℕ) (n : ℕ) (j : Journal) (r : MeterRecord) (side : Side) (reads : List ℕ) (t : Trace) → Between c o script rest n j r side reads t → Leaves (HoldsKept c o (lines_of script) t) t
+  between_holds rest n j r side reads t b image of = record {
+    journal = j;
     pairs = b.going.pairs;
     held = r;
     side = side;
@@ -125,39 +116,39 @@ module _ (c : Configuration) (o : MeterRecord) (script : List ℕ) where
 
   -- ---- one event
 
-  module _ (rest : List ℕ) (n : ℕ) (r : MeterRecord) (side : Side) (reads : List ℕ) (t : Trace) (line after : List ℕ) (new : MeterRecord) (b : Between rest n r side reads t) (first : lines_of rest ≡ line ∷ lines_of after) (takes : TakesLine (settings_for c) n r line new)
+  module _ (rest : List ℕ) (n : ℕ) (j : Journal) (r : MeterRecord) (side : Side) (reads : List ℕ) (t : Trace) (b : Between c o script rest n j r side reads t) (line after : List ℕ) (first : lines_of rest ≡ line ∷ lines_of after) (new : MeterRecord) (takes : TakesLine Run (settings_for c) n r line new)
       (old_small : r.seq < 10 ^ 64) (small : new.seq < 10 ^ 64) where
-    abbrev pub g : Going (settings_for c) o script rest n r t
+    abbrev pub g : Going (on_memory c) o script rest n j r t
     g = b.going
 
-    pub next_event : NextIsEvent (settings_for c) o (lines_of script) g.kept (length (output_lines t)) takes.event
+    pub next_event : NextIsEvent (on_memory c) o (lines_of script) j.kept (length (output_lines t)) takes.event
     next_event = record {
       line = line;
-      place = line_at (settings_for c) o script rest n r t line after g first;
+      place = line_at (on_memory c) o script rest n j r t g line after first;
       says = takes.says;
-      taken = next_taken (settings_for c) o script rest n r t line after new g takes;
+      taken = taken_at (on_memory c) o script rest n j r t g line after first new takes;
     }
 
-    stands_next : StandsForNext c o (lines_of script) g.kept (length (output_lines t)) new
+    stands_next : StandsForNext c o (lines_of script) j.kept (length (output_lines t)) new
     stands_next = record {
       event = takes.event;
       next = next_event;
       energy_mj = takes.takes.energy_mj;
       bound_mj = takes.takes.bound_mj;
-      fits = next_fits (settings_for c) o script rest n r t line after new g takes;
-      stands = next_stands (settings_for c) o script rest n r t line after new g takes;
+      fits = next_fits (on_memory c) o script rest n j r t g line after first new takes;
+      stands = next_stands (on_memory c) o script rest n j r t g line after first new takes;
     }
 
-    same_pairs : (p : Trace) → output_lines p ≡ output_lines t → Pairs (settings_for c) o 0 [] (lines_of script) (output_lines p) g.kept
-    same_pairs p same = subst (λ (outputs : List OutputLine). Pairs (settings_for c) o 0 [] (lines_of script) outputs g.kept) (sym same) g.pairs
+    same_pairs : (p : Trace) → output_lines p ≡ output_lines t → Pairs (on_memory c) o 0 at_start (lines_of script) (output_lines p) j
+    same_pairs p same = subst (λ (outputs : List OutputLine). Pairs (on_memory c) o 0 at_start (lines_of script) outputs j) (sym same) g.pairs
 
-    new_right : (p : Trace) (image : List ℕ) → output_lines p ≡ output_lines t → commits.StandsFor (Holds c new (other side)) image → IsRight c o (lines_of script) p image
+    pub new_right : (p : Trace) (image : List ℕ) → output_lines p ≡ output_lines t → commits.StandsFor (Holds c new (other side)) image → IsRight c o (lines_of script) p image
     new_right p image same holds =
-        next_right p image g.kept new (other side) (same_pairs p same) g.fits small holds
-        (subst (λ (outputs : List OutputLine). StandsForNext c o (lines_of script) g.kept (length outputs) new) (sym same) stands_next)
+        next_right p image j new (other side) (same_pairs p same) g.fits small holds
+        (subst (λ (outputs : List OutputLine). StandsForNext c o (lines_of script) j.kept (length outputs) new) (sym same) stands_next)
 
     either_right : (p : Trace) (image : List ℕ) → output_lines p ≡ output_lines t → HoldsEither c side r new image → IsRight c o (lines_of script) p image
-    either_right p image same (inl holds) = kept_right p image g.kept r side (same_pairs p same) g.fits old_small holds g.in_force
+    either_right p image same (inl holds) = kept_right p image j r side (same_pairs p same) g.fits old_small holds g.in_force
     either_right p image same (inr holds) = new_right p image same holds
 
     -- ---- while the memory works
@@ -187,37 +178,9 @@ module _ (c : Configuration) (o : MeterRecord) (script : List ℕ) where
 
     -- what the memory did where it was not cut
     pub reached : (u : Trace) (commit : Commits c side r new 0 t u) → Reached t u (stretch 0 u commit).entries
-    reached u commit =
+    reached u commit = let s = stretch 0 u commit in record { outputs = s.alone.lines; segment = own_segment u s.entries s.alone }
+
+    pub uncut : (u : Trace) (commit : Commits c side r new 0 t u) (event : Event) → list_all (may_stand (Metering event)) (stretch 0 u commit).entries ≡ true
+    uncut u commit event =
         let s = stretch 0 u commit in
-        let none : count_by is_forced_cut s.entries ≡ 0 = omega (arith, s.alone.counts is_forced_cut, commit.works.forced_cuts) in
-        record { outputs = s.alone.lines; segment = own_segment u s.entries s.alone; allowed = λ event. allowed s.entries event s.alone.memory none }
-
-    -- ---- when the answer goes out
-
-    module _ (u : Trace) (text : List ℕ) (committed : Committed c side r new t u) (is : text ≡ ok_text (settings_for c) new) where
-      -- all of it
-      pub line_sound : Going (settings_for c) o script after (n + 1) new (u ▷ Put text) → IsSound c o (lines_of script) (u ▷ Put text)
-      line_sound going = record {
-        right = λ image of. kept_right (u ▷ Put text) image going.kept new (other side) going.pairs going.fits small (committed.holds image (before_put u text image of)) going.in_force;
-        held_before = λ ends image of. record {
-          all = record { kept = going.kept; pairs = going.pairs; held = new; side = other side; holds = committed.holds image of; stands = going.in_force };
-          shows = ap number_shown is ∙ number_shown-ok_text (settings_for c) new small;
-        };
-        frugal = record { stores = omega (arith, ap (count_by is_store) going.nothing); syncs = omega (arith, ap (count_by is_sync) going.nothing) };
-      }
-
-      -- a front of it, which is no line
-      pub part_sound : (piece : List ℕ) → ends_line piece ≡ false → IsSound c o (lines_of script) (u ▷ Put piece)
-      part_sound piece part =
-          let at = reached u committed.commits in
-          let es = (stretch 0 u committed.commits).entries in
-          let segment : open_segment (u ▷ Put piece) ≡ es ++ Put piece ∷ [] = open_segment-piece u piece part ∙ ap (λ (l : List Entry). l ++ Put piece ∷ []) at.segment in
-          let before = (commit_sound 0 u committed.commits u (IsPrefix-self u)).frugal in
-          record {
-            right = λ image of. new_right (u ▷ Put piece) image (output_lines-piece u piece part ∙ at.outputs) (committed.holds image (before_put u piece image of));
-            held_before = λ ends. absurd (both_ways (ends_line piece) part ends);
-            frugal = record {
-              stores = omega (arith, before.stores, ap (count_by is_store) at.segment, ap (count_by is_store) segment, sum_by-append (λ (x : Entry). cond (is_store x) 1 0) es (Put piece ∷ []));
-              syncs = omega (arith, before.syncs, ap (count_by is_sync) at.segment, ap (count_by is_sync) segment, sum_by-append (λ (x : Entry). cond (is_sync x) 1 0) es (Put piece ∷ []));
-            };
-          }
+        allowed s.entries event s.alone.memory (omega (arith, s.alone.counts is_forced_cut, commit.works.forced_cuts))

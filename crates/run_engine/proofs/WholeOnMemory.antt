@@ -1,6 +1,5 @@
 -- What a run over a memory did with the front of a script that was read is right for the whole; and a run that answered no line.
 use Rattle.std.proofs.Common.{◌≡◌, ◌⊎◌, inl, inr, ℕ, ◌≤◌, List, [], ◌++◌, length, refl, sym, ap, subst, arith}
-use Rattle.metering_model.specs.Events.{Kept}
 use Rattle.metering_model.specs.Records.{MeterRecord, StandsFor}
 use Rattle.script_model.specs.Lines.{lines_of}
 use Rattle.trace_model.specs.Trace.{Trace, Start, ◌▷◌, IsFresh}
@@ -10,29 +9,32 @@ use Rattle.trace_model.specs.Moments.{Leaves}
 use Rattle.config_model.specs.Configuration.{Configuration}
 use Rattle.memory_model.specs.Stored as model
 use Rattle.memory_model.specs.Stored.{Side, Stored, Holds, stored}
-use Rattle.journal_model.specs.Pairing.{NoneRefused, Pairs}
-use Rattle.recovery_model.specs.Settings.{settings_for}
+use Rattle.pairing_model.specs.Settings.{settings_for}
+use Rattle.pairing_model.specs.Setup.{on_memory}
+use Rattle.pairing_model.specs.Journal.{Journal, at_start}
+use Rattle.pairing_model.specs.Pairing.{NoneRefused, Pairs}
 use Rattle.recovery_model.specs.Right.{HeldBefore, HoldsKept, IsRight, StandsForNext}
 use Rattle.recovery_model.proofs.Held.{IsHeld, held_record}
 use Rattle.register_store.specs.Commits as commits
 use Rattle.run_engine.specs.declared.Ended.{Ended}
 use Rattle.run_engine.specs.declared.Ended.TheVariants.{Done, Line, Memory, Read, Write, Unformatted, Foreign, OutOfMemory, Cut}
+use Rattle.run_engine.specs.Going.{Between}
 use Rattle.run_engine.specs.Ran.{EndsAt}
 use Rattle.run_engine.specs.Run.{EndsHeld, IsSound, RanOnMemory, RunLeaves}
 use Rattle.run_engine.specs.Steps.{Unreadable}
 use Rattle.run_engine.proofs.Complete.{completes}
 use Rattle.run_engine.proofs.Runs.{ran_to}
 use Rattle.run_engine.proofs.Whole.{event_too, pairs_too, ran_too}
-use Rattle.run_engine.proofs.OnMemory.{Between, between_holds}
+use Rattle.run_engine.proofs.OnMemory.{between_holds}
 use Rattle.run_engine.proofs.RunsOnMemory.{started}
 
 module _ (c : Configuration) (o : MeterRecord) (bytes more : List ℕ) (long : 121000001 ≤ length bytes) where
-  stands_too : (p : Trace) (kept : List Kept) (held : MeterRecord) → Pairs (settings_for c) o 0 [] (lines_of bytes) (output_lines p) kept
-      → StandsFor (settings_for c) o kept held ⊎ StandsForNext c o (lines_of bytes) kept (length (output_lines p)) held → StandsFor (settings_for c) o kept held ⊎ StandsForNext c o (lines_of (bytes ++ more)) kept (length (output_lines p)) held
-  stands_too p kept held pairs (inl stands) = inl stands
-  stands_too p kept held pairs (inr next) = inr (record {
+  stands_too : (p : Trace) (j : Journal) (held : MeterRecord) → Pairs (on_memory c) o 0 at_start (lines_of bytes) (output_lines p) j
+      → StandsFor (settings_for c) o j.kept held ⊎ StandsForNext c o (lines_of bytes) j.kept (length (output_lines p)) held → StandsFor (settings_for c) o j.kept held ⊎ StandsForNext c o (lines_of (bytes ++ more)) j.kept (length (output_lines p)) held
+  stands_too p j held pairs (inl stands) = inl stands
+  stands_too p j held pairs (inr next) = inr (record {
     event = next.event;
-    next = event_too (settings_for c) o bytes more (output_lines p) kept long pairs next.event next.next;
+    next = event_too (on_memory c) o bytes more (output_lines p) j long pairs next.event next.next;
     energy_mj = next.energy_mj;
     bound_mj = next.bound_mj;
     fits = next.fits;
@@ -41,21 +43,21 @@ module _ (c : Configuration) (o : MeterRecord) (bytes more : List ℕ) (long : 1
 
   right_too : (p : Trace) (image : List ℕ) → IsRight c o (lines_of bytes) p image → IsRight c o (lines_of (bytes ++ more)) p image
   right_too p image r = record {
-    kept = r.kept;
-    pairs = pairs_too (settings_for c) o bytes more (output_lines p) r.kept long r.pairs;
+    journal = r.journal;
+    pairs = pairs_too (on_memory c) o bytes more (output_lines p) r.journal long r.pairs;
     fits = r.fits;
     held = r.held;
     side = r.side;
     holds = r.holds;
-    stands = stands_too p r.kept r.held r.pairs r.stands;
+    stands = stands_too p r.journal r.held r.pairs r.stands;
     opening = r.opening;
     acknowledged = r.acknowledged;
   }
 
   abbrev holds_too : (p : Trace) (image : List ℕ) → HoldsKept c o (lines_of bytes) p image → HoldsKept c o (lines_of (bytes ++ more)) p image
   holds_too p image h = record {
-    kept = h.kept;
-    pairs = pairs_too (settings_for c) o bytes more (output_lines p) h.kept long h.pairs;
+    journal = h.journal;
+    pairs = pairs_too (on_memory c) o bytes more (output_lines p) h.journal long h.pairs;
     held = h.held;
     side = h.side;
     holds = h.holds;
@@ -82,24 +84,24 @@ module _ (c : Configuration) (o : MeterRecord) (bytes more : List ℕ) (long : 1
 
   pub on_memory_too : (t : Trace) (ended : Ended) → RanOnMemory c o bytes t ended → RanOnMemory c o (bytes ++ more) t ended
   on_memory_too t ended r = record {
-    ran = ran_too (settings_for c) o bytes more t ended long r.ran;
+    ran = ran_too (on_memory c) o bytes more t ended long r.ran;
     sound = λ p before. sound_too p (r.sound p before);
     held = held_too t ended r.held;
   }
 
 -- no line was answered
 module _ (c : Configuration) (o : MeterRecord) (script : List ℕ) (t : Trace) (reads : List ℕ) (side : Side) (fresh : IsFresh t) (of : IsImage t reads) (holds : commits.StandsFor (Holds c o side) reads) (is : IsHeld o) where
-  nothing_yet : Between c o script script 0 o side reads t
+  nothing_yet : Between c o script script 0 at_start o side reads t
   nothing_yet = started c o script t reads side fresh of holds is.months (omega (arith, is.seq))
 
-  unanswered : (ended : Ended) → EndsAt (settings_for c) o (lines_of script) (output_lines t) (open_segment t) nothing_yet.going.kept ended → EndsHeld c o (lines_of script) t ended → RanOnMemory c o script t ended
-  unanswered ended ends held = record { ran = ran_to (settings_for c) o script nothing_yet.going.kept t ended nothing_yet.going.pairs nothing_yet.going.fits ends; sound = nothing_yet.sound; held = held }
+  unanswered : (ended : Ended) → EndsAt (on_memory c) o (lines_of script) (output_lines t) (open_segment t) at_start ended → EndsHeld c o (lines_of script) t ended → RanOnMemory c o script t ended
+  unanswered ended ends held = record { ran = ran_to (on_memory c) o script at_start t ended nothing_yet.going.pairs nothing_yet.going.fits ends; sound = nothing_yet.sound; held = held }
 
   no_lines : output_lines t ≡ []
   no_lines = ap output_lines fresh
 
   all_held : Leaves (HoldsKept c o (lines_of script) t) t
-  all_held = between_holds c o script script 0 o side reads t nothing_yet
+  all_held = between_holds c o script script 0 at_start o side reads t nothing_yet
 
   pub unread : RanOnMemory c o script t Read
   unread = unanswered Read (no_lines, nothing_yet.going.nothing) all_held
@@ -130,6 +132,6 @@ unreadable_leaves memory reads script t OutOfMemory is fresh of e = absurd e
 
 -- over a memory that held a configuration and a record
 pub complete_from : (memory : Stored) (c : Configuration) (o : MeterRecord) (side : Side) (script : List ℕ) (t : Trace) (ended : Ended) → memory ≡ Holds c o side → RunLeaves memory script t ended
-    → ¬ (ended ≡ Read) → ¬ (ended ≡ Write) → ¬ (ended ≡ Memory) → ¬ (ended ≡ Cut) → NoneRefused (settings_for c) o (lines_of script) → (ended ≡ Done) ⊎ (ended ≡ OutOfMemory)
+    → ¬ (ended ≡ Read) → ¬ (ended ≡ Write) → ¬ (ended ≡ Memory) → ¬ (ended ≡ Cut) → NoneRefused (on_memory c) o (lines_of script) → (ended ≡ Done) ⊎ (ended ≡ OutOfMemory)
 complete_from memory c o side script t ended is leaves no_read no_write no_memory no_cut none =
-    completes (settings_for c) o script t ended (subst (λ m. RunLeaves m script t ended) is leaves).ran no_read no_write no_memory no_cut none
+    completes (on_memory c) o script t ended (subst (λ m. RunLeaves m script t ended) is leaves).ran no_read no_write no_memory no_cut none

@@ -3,3 +3,5 @@ pub mod Ran
 pub mod Dry
 pub mod Steps
 pub mod Run
+pub mod Shows
+pub mod Going

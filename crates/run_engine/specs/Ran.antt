@@ -2,7 +2,6 @@
 use Rattle.std.specs.Prelude.{◌≡◌, ℕ, ◌+◌, ◌⊎◌, true, List, [], ◌∷◌, ◌++◌, length, take, Some, IsTrue, slice_get}
 use Rattle.std.specs.List.{list_all}
 use Rattle.metering_model.specs.Events.{Event, Kept}
-use Rattle.metering_model.specs.Settings.{Settings}
 use Rattle.metering_model.specs.Records.{MeterRecord, record_after}
 use Rattle.metering_model.specs.Integral.{AllFitWithMargin}
 use Rattle.script_model.specs.Lines.{lines_of}
@@ -11,69 +10,71 @@ use Rattle.trace_model.specs.Trace.{Entry, Put, Cut, Trace}
 use Rattle.trace_model.specs.Output.{OutputLine, output_lines, open_segment}
 use Rattle.trace_model.specs.Moments.{IsPrefix}
 use Rattle.journal_model.specs.Faults.{Fault, fault_of}
-use Rattle.journal_model.specs.Pairing.{Answers, Pairs, may_stand}
+use Rattle.pairing_model.specs.Setup.{Setup, settings_in}
+use Rattle.pairing_model.specs.Journal.{Journal, at_start}
+use Rattle.pairing_model.specs.Pairing.{Answers, Pairs, may_stand}
 use Rattle.recovery_model.specs.Right.{NextIsEvent}
 use Rattle.event_script.specs.Views.{fault_view}
 use Rattle.run_engine.specs.declared.Ended.{Ended}
 use Rattle.run_engine.specs.declared.Ended.TheVariants.{Done, Line, Memory, Read, Write, Unformatted, Foreign, OutOfMemory, Cut as WasCut}
 
 -- the line after the n first is refused for this reason, which the record in force decides
-pub record IsRefused (c : Settings) (o : MeterRecord) (lines : List (List ℕ)) (kept : List Kept) (n : ℕ) (fault : Fault) : Type 0 where
+pub record IsRefused (s : Setup) (o : MeterRecord) (lines : List (List ℕ)) (kept : List Kept) (n : ℕ) (fault : Fault) : Type 0 where
   pub line : List ℕ
   pub place : slice_get lines n ≡ Some line
-  pub why : fault_of (record_after c o kept) n line ≡ Some fault
+  pub why : fault_of s.command (record_after (settings_in s) o kept) n line ≡ Some fault
 
 -- the line after the n first is an event, for which this happened
-pub record StopsInEvent (c : Settings) (o : MeterRecord) (lines : List (List ℕ)) (kept : List Kept) (n : ℕ) (rest : List Entry) : Type 0 where
+pub record StopsInEvent (s : Setup) (o : MeterRecord) (lines : List (List ℕ)) (kept : List Kept) (n : ℕ) (rest : List Entry) : Type 0 where
   pub event : Event
-  pub next : NextIsEvent c o lines kept n event
+  pub next : NextIsEvent s o lines kept n event
   pub allowed : IsTrue (list_all (may_stand (Metering event)) rest)
 
 -- and then the power was cut
-pub record StopsAtCut (c : Settings) (o : MeterRecord) (lines : List (List ℕ)) (kept : List Kept) (n : ℕ) (rest : List Entry) : Type 0 where
+pub record StopsAtCut (s : Setup) (o : MeterRecord) (lines : List (List ℕ)) (kept : List Kept) (n : ℕ) (rest : List Entry) : Type 0 where
   pub before : List Entry
   pub image : List ℕ
   pub is : rest ≡ before ++ Cut true image ∷ []
-  pub stops : StopsInEvent c o lines kept n before
+  pub stops : StopsInEvent s o lines kept n before
 
 -- all happened for the line after the n first but its answer, of which nothing went out, or a front
-pub record StopsInAnswer (c : Settings) (o : MeterRecord) (lines : List (List ℕ)) (kept : List Kept) (n : ℕ) (rest : List Entry) : Type 0 where
+pub record StopsInAnswer (s : Setup) (o : MeterRecord) (lines : List (List ℕ)) (journal : Journal) (n : ℕ) (rest : List Entry) : Type 0 where
   pub line : List ℕ
   pub place : slice_get lines n ≡ Some line
   pub segment : List Entry
   pub text : List ℕ
-  pub new : List Kept
-  pub answer : Answers c o n kept line (record { segment = segment; text = text }) new
+  pub new : Journal
+  pub answer : Answers s o n journal line (record { segment = segment; text = text }) new
   pub went : (rest ≡ segment) ⊎ ((count : ℕ) × (rest ≡ segment ++ Put (take count text) ∷ []))
 
 -- Done: each line has its output line. Line: the next line is refused, and nothing happened for it. Memory: it failed at
 -- first, or for the event of the next line. Cut: so did the power. Write: the last answer went out, or the next one failed.
 -- Read, OutOfMemory: nothing went out. The memory is never found unformatted or foreign.
-abbrev pub EndsAt : Settings → MeterRecord → List (List ℕ) → List OutputLine → List Entry → List Kept → Ended → Type 0
-EndsAt c o lines outputs rest kept Done = (length outputs ≡ length lines) × (rest ≡ [])
-EndsAt c o lines outputs rest kept (Line n kind) = (n ≡ length outputs + 1) × IsRefused c o lines kept (length outputs) (fault_view kind) × (rest ≡ [])
-EndsAt c o lines outputs rest kept Memory = ((outputs ≡ []) × (rest ≡ [])) ⊎ StopsInEvent c o lines kept (length outputs) rest
-EndsAt c o lines outputs rest kept WasCut = StopsAtCut c o lines kept (length outputs) rest
-EndsAt c o lines outputs rest kept Write = (rest ≡ []) ⊎ StopsInAnswer c o lines kept (length outputs) rest
-EndsAt c o lines outputs rest kept Read = (outputs ≡ []) × (rest ≡ [])
-EndsAt c o lines outputs rest kept OutOfMemory = (outputs ≡ []) × (rest ≡ [])
-EndsAt c o lines outputs rest kept (Unformatted byte) = ⊥
-EndsAt c o lines outputs rest kept (Foreign at) = ⊥
+abbrev pub EndsAt : Setup → MeterRecord → List (List ℕ) → List OutputLine → List Entry → Journal → Ended → Type 0
+EndsAt s o lines outputs rest j Done = (length outputs ≡ length lines) × (rest ≡ [])
+EndsAt s o lines outputs rest j (Line n kind) = (n ≡ length outputs + 1) × IsRefused s o lines j.kept (length outputs) (fault_view kind) × (rest ≡ [])
+EndsAt s o lines outputs rest j Memory = ((outputs ≡ []) × (rest ≡ [])) ⊎ StopsInEvent s o lines j.kept (length outputs) rest
+EndsAt s o lines outputs rest j WasCut = StopsAtCut s o lines j.kept (length outputs) rest
+EndsAt s o lines outputs rest j Write = (rest ≡ []) ⊎ StopsInAnswer s o lines j (length outputs) rest
+EndsAt s o lines outputs rest j Read = (outputs ≡ []) × (rest ≡ [])
+EndsAt s o lines outputs rest j OutOfMemory = (outputs ≡ []) × (rest ≡ [])
+EndsAt s o lines outputs rest j (Unformatted byte) = ⊥
+EndsAt s o lines outputs rest j (Foreign at) = ⊥
 
 -- at a moment, the output lines pair with the first lines of the script, and the events that they keep fit with margin
-pub record Metered (c : Settings) (o : MeterRecord) (script : List ℕ) (moment : Trace) : Type 0 where
-  pub kept : List Kept
-  pub pairs : Pairs c o 0 [] (lines_of script) (output_lines moment) kept
-  pub fits : AllFitWithMargin c o kept
+pub record Metered (s : Setup) (o : MeterRecord) (script : List ℕ) (moment : Trace) : Type 0 where
+  pub journal : Journal
+  pub pairs : Pairs s o 0 at_start (lines_of script) (output_lines moment) journal
+  pub fits : AllFitWithMargin (settings_in s) o journal.kept
 
 -- The output lines pair with the first lines of the script, from the opening record o, and the events that they keep fit
 -- with margin. So it was at each moment.
-pub record Ran (c : Settings) (o : MeterRecord) (script : List ℕ) (trace : Trace) (ended : Ended) : Type 0 where
-  pub kept : List Kept
-  pub pairs : Pairs c o 0 [] (lines_of script) (output_lines trace) kept
-  pub fits : AllFitWithMargin c o kept
-  pub ends : EndsAt c o (lines_of script) (output_lines trace) (open_segment trace) kept ended
-  pub moments : (p : Trace) → IsPrefix p trace → Metered c o script p
+pub record Ran (s : Setup) (o : MeterRecord) (script : List ℕ) (trace : Trace) (ended : Ended) : Type 0 where
+  pub journal : Journal
+  pub pairs : Pairs s o 0 at_start (lines_of script) (output_lines trace) journal
+  pub fits : AllFitWithMargin (settings_in s) o journal.kept
+  pub ends : EndsAt s o (lines_of script) (output_lines trace) (open_segment trace) journal ended
+  pub moments : (p : Trace) → IsPrefix p trace → Metered s o script p
 
 -- an answer to lines that were read
 abbrev pub AnswersLines : Ended → Type 0

@@ -9,7 +9,7 @@ use Rattle.trace_model.specs.Moments.{IsPrefix, Leaves}
 use Rattle.config_model.specs.Configuration.{Configuration}
 use Rattle.memory_model.specs.Stored as model
 use Rattle.memory_model.specs.Stored.{Stored, Holds}
-use Rattle.recovery_model.specs.Settings.{settings_for}
+use Rattle.pairing_model.specs.Setup.{on_memory}
 use Rattle.recovery_model.specs.Right.{HeldBefore, HoldsKept, IsRight}
 use Rattle.register_store.specs.Works.{is_store, is_sync}
 use Rattle.run_engine.specs.declared.Ended.{Ended}
@@ -42,7 +42,7 @@ EndsHeld c o lines trace (Foreign at) = ⊥
 
 -- a run over a memory that held the configuration c and the record o
 pub record RanOnMemory (c : Configuration) (o : MeterRecord) (script : List ℕ) (trace : Trace) (ended : Ended) : Type 0 where
-  pub ran : Ran (settings_for c) o script trace ended
+  pub ran : Ran (on_memory c) o script trace ended
   pub sound : (p : Trace) → IsPrefix p trace → IsSound c o (lines_of script) p
   pub held : EndsHeld c o (lines_of script) trace ended
 

@@ -1,10 +1,12 @@
 //! The commands that take a script.
 #![tactic(auto)]
 
+mod answers;
 mod laws;
 mod lines;
 mod on_memory;
 mod script;
+mod station;
 mod text;
 mod without_memory;
 

@@ -1,40 +1,39 @@
 //! The command `run`.
-ghost use Rattle.std.specs.Prelude.{◌≡◌, ◌≢◌, ◌≤◌, ◌⊎◌, ℕ, List, Ok, Err, [], IfErr, IsErrOf};
+ghost use Rattle.std.specs.Prelude.{◌≡◌, ◌≢◌, ◌≤◌, ◌⊎◌, ℕ, List, Ok, Err, []};
 ghost use Rattle.trace_model.specs.Trace.{IsFresh, base_of};
-ghost use Rattle.trace_model.specs.Images.{NothingPending};
 ghost use Rattle.script_model.specs.Lines.{lines_of};
 ghost use Rattle.config_model.specs.Configuration.{Configuration};
 ghost use Rattle.metering_model.specs.Records as metering;
 ghost use Rattle.memory_model.specs.Stored as model;
 ghost use Rattle.memory_model.specs.Stored.{Holds, stored};
-ghost use Rattle.journal_model.specs.Pairing.{NoneRefused};
-ghost use Rattle.journal_model.specs.Texts.{ok_text};
-ghost use Rattle.recovery_model.specs.Settings.{settings_for};
+ghost use Rattle.pairing_model.specs.Setup.{on_memory};
+ghost use Rattle.pairing_model.specs.Pairing.{NoneRefused};
 ghost use Rattle.billing_memory.specs.Records.{record_view};
-ghost use Rattle.meter_config.specs.Views.{config_view, settings_of};
+ghost use Rattle.meter_config.specs.Views.{config_view};
 ghost use Rattle.meter_board.specs.Causes.{Rose};
-ghost use Rattle.register_store.specs.Commits.{StandsFor, StandsOn};
+ghost use Rattle.register_store.specs.Commits.{StandsFor};
 ghost use Rattle.register_store.specs.Recovered.{RecoverGives, side_view};
 ghost use Rattle.run_engine.specs.Ran.{AnswersLines};
 ghost use Rattle.run_engine.specs.Run.{RanOnMemory, RunLeaves};
-ghost use Rattle.run_engine.specs.Steps.{IsUnreadable, StepGives, Unreadable};
+ghost use Rattle.run_engine.specs.Steps.{IsUnreadable, Unreadable};
 
 use crate::Ended;
-use crate::lines::take_line;
+use crate::lines::said_by;
 use crate::script::{Unread, read_script};
-use crate::text::ok_line;
+use crate::station::Station;
 use event_script::split_line;
-use meter_board::{Board, Failed, Source};
+use meter_board::{Board, Source};
 use meter_core::Meter;
-use register_store::{Side, StoreFault, commit, recover};
+use register_store::{Side, StoreFault, recover};
 use std::alloc::Global;
 
 /// Meters the events of a script over the memory of the board. Each event is taken by the record, then held by the
-/// memory, whatever the power does from then on, and then answered by an output line.
+/// memory, whatever the power does from then on, and then answered by an output line. A readout is answered from
+/// the record in force and what was heard since the start.
 pub fn run<S: Source, B: Board>(alloc: Global, source: &mut S, board: &mut B) -> Ended
     requires { B.tells → IsFresh (B.trace board.old) }
     ensures leaves { S.tells → B.tells → RunLeaves (stored (base_of (B.trace board.old))) (S.left source.old) (B.trace board.new) result }
-    ensures complete { S.tells → B.tells → (c : Configuration) (o : metering.MeterRecord) (side : model.Side) → stored (base_of (B.trace board.old)) ≡ Holds c o side → NoneRefused (settings_for c) o (lines_of (S.left source.old))
+    ensures complete { S.tells → B.tells → (c : Configuration) (o : metering.MeterRecord) (side : model.Side) → stored (base_of (B.trace board.old)) ≡ Holds c o side → NoneRefused (on_memory c) o (lines_of (S.left source.old))
         → ¬ Rose (S.faults source.old) (S.faults source.new) → ¬ Rose (B.memory_faults board.old) (B.memory_faults board.new) → ¬ Rose (B.output_faults board.old) (B.output_faults board.new) → ¬ Rose (B.cuts board.old) (B.cuts board.new)
         → (result ≡ Ended.Done) ⊎ (result ≡ Ended.OutOfMemory) }
     ensures base { B.tells → base_of (B.trace board.new) ≡ base_of (B.trace board.old) }
@@ -84,49 +83,21 @@ fn answer_lines<B: Board>(script: &[u8], meter: Meter, side: Side, board: &mut B
     ensures output_faults { B.output_faults board.old ≤ B.output_faults board.new }
     ensures cuts { B.cuts board.old ≤ B.cuts board.new }
 {
-    let mut meter = meter;
-    let mut side = side;
+    let mut station = Station::start(meter, side);
     let mut rest = script;
     let mut taken = 0;
     while !rest.is_empty() {
         let (line, after) = split_line(rest);
-        match take_line(line, taken, &mut meter) {
+        let said = match said_by(line, taken) {
+            Ok(said) => said,
             Err(kind) => return Ended::Line { n: taken + 1, kind },
+        };
+        match station.answer(&said, taken, board) {
             Ok(()) => {}
+            Err(ended) => return ended,
         }
         taken += 1;
-        match acknowledge(&meter, side, board) {
-            Err(ended) => return ended,
-            Ok(turned) => side = turned,
-        }
         rest = after;
     }
     Ended::Done
-}
-
-/// Lets the memory hold the meter's record, and then shows it. Answers the side that holds it.
-fn acknowledge<B: Board>(meter: &Meter, side: Side, board: &mut B) -> Result<Side, Ended>
-    requires settled { B.tells → NothingPending (B.trace board.old) }
-    requires stands { B.tells → StandsOn (side_view side) (B.reads board.old) }
-    ensures gives { B.tells → (c : Configuration) (r : metering.MeterRecord) → StandsFor (Holds c r (side_view side)) (B.reads board.old)
-        → StepGives c (side_view side) r (record_view meter.now.record) (ok_text (settings_of meter.now.config) (record_view meter.now.record)) (B.trace board.old) result (B.trace board.new) (B.reads board.new) }
-    ensures base { B.tells → base_of (B.trace board.new) ≡ base_of (B.trace board.old) }
-    ensures memory { IsErrOf result Ended.Memory → Rose (B.memory_faults board.old) (B.memory_faults board.new) }
-    ensures write { IsErrOf result Ended.Write → Rose (B.output_faults board.old) (B.output_faults board.new) }
-    ensures cut { IsErrOf result Ended.Cut → Rose (B.cuts board.old) (B.cuts board.new) }
-    ensures kind { IfErr result AnswersLines }
-    ensures memory_faults { B.memory_faults board.old ≤ B.memory_faults board.new }
-    ensures output_faults { B.output_faults board.old ≤ B.output_faults board.new }
-    ensures cuts { B.cuts board.old ≤ B.cuts board.new }
-{
-    let turned = match commit(board, side, meter.state()) {
-        Ok(turned) => turned,
-        Err(StoreFault::Cut) => return Err(Ended::Cut),
-        Err(_) => return Err(Ended::Memory),
-    };
-    let text = ok_line(meter.state(), meter.config().per_pulse);
-    match board.put(text.as_str().as_bytes()) {
-        Ok(()) => Ok(turned),
-        Err(Failed) => Err(Ended::Write),
-    }
 }

@@ -5,9 +5,14 @@ use Rattle.metering_model.specs.Events.{Event, Sample, Pulse, Date}
 use Rattle.script_model.specs.Lines.{words_of}
 use Rattle.script_model.specs.Numbers.{number_in}
 use Rattle.script_model.specs.Dates.{date_in}
+use Rattle.script_model.specs.Hex.{hex_in}
 
 pub data Line : Type 0 where
   Metering : (event : Event) → Line
+  -- a message to the optical head
+  Opt : (message : List ℕ) → Line
+  -- bytes on the M-Bus
+  Mbus : (bytes : List ℕ) → Line
 
 -- what is read first, and then the rest
 infixl 10 ◌>>=◌
@@ -51,12 +56,22 @@ pulse_line words = word_at 1 (number_in 1 max_pulses) words >>= λ n. end_at 2 (
 abbrev pub date_line : List (List ℕ) → Result Line ℕ
 date_line words = word_at 1 date_in words >>= λ day. end_at 2 (Metering (Date day.0)) day.1
 
+-- `opt HEX`
+abbrev pub opt_line : List (List ℕ) → Result Line ℕ
+opt_line words = word_at 1 hex_in words >>= λ message. end_at 2 (Opt message.0) message.1
+
+-- `mbus HEX`
+abbrev pub mbus_line : List (List ℕ) → Result Line ℕ
+mbus_line words = word_at 1 hex_in words >>= λ bytes. end_at 2 (Mbus bytes.0) bytes.1
+
 -- by the first word
 abbrev pub line_named : List ℕ → List (List ℕ) → Result Line ℕ
 line_named name words =
     cond (pointwise nat_eq name (codes "sample")) (sample_line words)
     (cond (pointwise nat_eq name (codes "pulse")) (pulse_line words)
-    (cond (pointwise nat_eq name (codes "date")) (date_line words) (Err 0)))
+    (cond (pointwise nat_eq name (codes "date")) (date_line words)
+    (cond (pointwise nat_eq name (codes "opt")) (opt_line words)
+    (cond (pointwise nat_eq name (codes "mbus")) (mbus_line words) (Err 0)))))
 
 abbrev pub line_of_words : List (List ℕ) → Result Line ℕ
 line_of_words [] = Err 0

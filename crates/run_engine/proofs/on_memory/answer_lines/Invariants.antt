@@ -2,14 +2,13 @@ use Rattle.std.proofs.Common.{◌≡◌, ◌≤◌, length}
 use Rattle.trace_model.specs.Trace.{base_of}
 use Rattle.billing_memory.specs.Records.{record_view}
 use Rattle.meter_config.specs.Views.{config_view}
-use Rattle.register_store.specs.Recovered.{side_view}
-use Rattle.run_engine.proofs.OnMemory.{Between}
+use Rattle.run_engine.specs.Going.{IsReady}
 use Rattle.run_engine.proofs.on_memory.answer_lines.Given as goal
 
 abbrev pub invariant-loop-rest : goal.invariant-loop-rest
 invariant-loop-rest g l = record {
-  between : g.B.Board.tells → Between (config_view l.fn.meter.config) (record_view l.fn.meter.record) l.script l.rest l.taken (record_view l.meter.record) (side_view l.side) (g.B.Board.reads l.board) (g.B.Board.trace l.board);
-  config : l.meter.config ≡ l.fn.meter.config;
+  ready : g.B.Board.tells → IsReady (config_view l.fn.meter.config) (record_view l.fn.meter.record) l.script l.rest l.taken l.station (g.B.Board.reads l.board) (g.B.Board.trace l.board);
+  config : l.station.meter.config ≡ l.fn.meter.config;
   memory_faults : g.B.Board.memory_faults l.fn.board ≤ g.B.Board.memory_faults l.board;
   output_faults : g.B.Board.output_faults l.fn.board ≤ g.B.Board.output_faults l.board;
   cuts : g.B.Board.cuts l.fn.board ≤ g.B.Board.cuts l.board;

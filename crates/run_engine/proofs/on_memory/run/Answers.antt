@@ -1,6 +1,6 @@
 use Rattle.std.proofs.Common.{◌≡◌, ◌<◌, ◌++◌, ◌∙◌, [], length, Err, ap, arith, subst, sym}
 use Rattle.memory_model.specs.Stored.{Holds, stored}
-use Rattle.recovery_model.specs.Settings.{settings_for}
+use Rattle.pairing_model.specs.Setup.{on_memory}
 use Rattle.recovery_model.proofs.Held.{held_record}
 use Rattle.trace_model.specs.Trace.{base_of}
 use Rattle.trace_model.proofs.Images.{fresh_image}
@@ -50,7 +50,7 @@ returns-in-Ok-read_script-clause-leaves g c = λ reads tells.
 pub returns-in-Ok-read_script-clause-end : goal.returns-in-Ok-read_script-clause-end
 returns-in-Ok-read_script-clause-end g c = λ reads tells is.
     let left = g.S.Source.left c.read_script.new.source in
-    read_to_end (settings_for (config_view c.start.result.config)) (record_view c.start.result.record) c.deref.result.now left _ c.answer_lines.result (subst (λ b. length b < 121000001 → left ≡ []) (sym c.deref.ensures.value) (c.in-Ok-read_script.ensures.end reads)) is (c.answer_lines.ensures.ran tells).ran
+    read_to_end (on_memory (config_view c.start.result.config)) (record_view c.start.result.record) c.deref.result.now left _ c.answer_lines.result (subst (λ b. length b < 121000001 → left ≡ []) (sym c.deref.ensures.value) (c.in-Ok-read_script.ensures.end reads)) is (c.answer_lines.ensures.ran tells).ran
 
 pub returns-in-Ok-read_script-clause-complete : goal.returns-in-Ok-read_script-clause-complete
 returns-in-Ok-read_script-clause-complete g c = λ reads tells config o side is none no_read no_memory no_write no_cut.

@@ -9,7 +9,7 @@ use Rattle.trace_model.specs.Trace.{Put, ◌▷◌}
 use Rattle.run_engine.specs.Steps.{Committed}
 use Rattle.trace_model.proofs.Moments.{Grew-base}
 use Rattle.run_engine.proofs.Runs.{put_base, some_text, text_of}
-use Rattle.run_engine.proofs.on_memory.acknowledge.Goals as goal
+use Rattle.run_engine.proofs.answers.acknowledge.Goals as goal
 
 pub put-requires : goal.put-requires
 put-requires g c =

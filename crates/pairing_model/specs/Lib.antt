@@ -1,0 +1,4 @@
+pub mod Settings
+pub mod Setup
+pub mod Journal
+pub mod Pairing

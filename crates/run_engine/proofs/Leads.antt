@@ -1,0 +1,96 @@
+-- What the answer to a line leads to: the next line, or the end of the run.
+use Rattle.std.proofs.Common.{◌≡◌, ℕ, ◌+◌, List, ◌∷◌, None, Some, Result, Ok, Err, sym, ap, ◌∙◌, subst, arith}
+use Rattle.metering_model.specs.Events as events
+use Rattle.metering_model.specs.Integral.{TakesEvent}
+use Rattle.metering_model.specs.Records as records
+use Rattle.metering_model.specs.Settings.{Settings}
+use Rattle.script_model.specs.Lines.{lines_of}
+use Rattle.script_model.specs.Grammar.{Metering, Opt, Mbus}
+use Rattle.trace_model.specs.Trace.{Trace}
+use Rattle.trace_model.specs.Images.{IsImage}
+use Rattle.config_model.specs.Configuration.{Configuration}
+use Rattle.journal_model.specs.Faults.{Run, event_fault}
+use Rattle.journal_model.specs.Texts.{ok_text}
+use Rattle.journal_model.proofs.Texts.{IsPrintable}
+use Rattle.pairing_model.specs.Settings.{settings_for}
+use Rattle.pairing_model.specs.Setup.{on_memory}
+use Rattle.billing_memory.specs.Records.{record_view}
+use Rattle.meter_config.specs.Views.{config_view, settings_of}
+use Rattle.meter_core.specs.declared.meter.Meter.{Meter}
+use Rattle.event_script.specs.declared.LineFault.{LineFault}
+use Rattle.event_script.specs.Views.{fault_view}
+use Rattle.optical_readout.specs.Heard.{Heard}
+use Rattle.optical_readout.specs.declared.head.Optical.{Optical}
+use Rattle.mbus_records.specs.declared.slave.Slave.{Slave}
+use Rattle.register_store.specs.declared.side.Side.{Side}
+use Rattle.register_store.specs.Recovered.{side_view}
+use Rattle.run_engine.specs.declared.Ended.{Ended}
+use Rattle.run_engine.specs.declared.Ended.TheVariants.{Line}
+use Rattle.run_engine.specs.declared.station.Station.{Station}
+use Rattle.run_engine.specs.Going.{IsReady, Leads}
+use Rattle.run_engine.specs.Run.{RanOnMemory}
+use Rattle.run_engine.specs.Shows.{ShowsOnBus, ShowsReply}
+use Rattle.run_engine.specs.Steps.{StepGives}
+use Rattle.run_engine.specs.Takes.{SaysAt, TakesLine}
+use Rattle.run_engine.proofs.Nothing.{few_litres, settings_same}
+use Rattle.run_engine.proofs.Readouts.{bytes_end, bytes_go_on, message_ends, message_goes_on, head_journal}
+use Rattle.run_engine.proofs.Runs.{next_journal, printable}
+use Rattle.run_engine.proofs.RunsOnMemory.{refused_on, step_ends, step_goes_on}
+
+module _ (c : Configuration) (o : records.MeterRecord) (script rest : List ℕ) (n : ℕ) (station : Station) (reads : List ℕ) (t : Trace) (ready : IsReady c o script rest n station reads t) (line after : List ℕ) (first : lines_of rest ≡ line ∷ lines_of after) (is : c ≡ config_view station.meter.config) where
+  abbrev r : records.MeterRecord
+  r = record_view station.meter.record
+
+  module _ (event : events.Event) (says : SaysAt n line (Metering event)) where
+    pub event_refused : (kind : LineFault) → event_fault r event ≡ Some (fault_view kind) → RanOnMemory c o script t (Line (n + 1) kind)
+    event_refused kind fault = refused_on c o script rest n ready.journal r (side_view station.side) reads t ready.between line after first kind (says.decides Run r ∙ fault)
+
+    module _ (meter : Meter) (same : meter.config ≡ station.meter.config) (no_fault : event_fault r event ≡ None) (takes : TakesEvent (settings_of station.meter.config) r event (record_view meter.record)) where
+      settings : settings_of station.meter.config ≡ settings_for c
+      settings = settings_same station.meter.config ∙ ap settings_for (sym is)
+
+      line_takes : TakesLine Run (settings_for c) n r line (record_view meter.record)
+      line_takes = record { event = event; taken = says.decides Run r ∙ no_fault; says = says.says; takes = subst (λ s. TakesEvent s r event (record_view meter.record)) settings takes }
+
+      text : ok_text (settings_of meter.config) (record_view meter.record) ≡ ok_text (settings_for c) (record_view meter.record)
+      text = ap (λ (s : Settings). ok_text s (record_view meter.record)) (ap settings_of same ∙ settings)
+
+      can_print : IsPrintable (settings_for c) (record_view meter.record)
+      can_print = subst (λ (k : Configuration). IsPrintable (settings_for k) (record_view meter.record)) (sym is) (printable (settings_for (config_view station.meter.config)) meter.record (few_litres station.meter.config.per_pulse station.meter.config.per_pulse_in_range))
+
+      pub event_ends : (t' : Trace) (reads' : List ℕ) (ended : Ended) → StepGives c (side_view station.side) r (record_view meter.record) (ok_text (settings_of meter.config) (record_view meter.record)) t (Err ended) t' reads' → RanOnMemory c o script t' ended
+      event_ends t' reads' ended gives =
+          step_ends c o script rest n ready.journal r (side_view station.side) reads t ready.between line after first (record_view meter.record) line_takes (omega (arith, station.meter.record.seq_in_range)) can_print _ text t' reads' ended gives
+
+      pub event_goes_on : (t' : Trace) (reads' : List ℕ) (turned : Side) → StepGives c (side_view station.side) r (record_view meter.record) (ok_text (settings_of meter.config) (record_view meter.record)) t (Ok turned) t' reads' → IsImage t' reads'
+          → IsReady c o script after (n + 1) (record station { meter = meter; side = turned }) reads' t'
+      event_goes_on t' reads' turned gives of = record {
+        journal = next_journal (on_memory c) o script rest n ready.journal r t ready.between.going line after first (record_view meter.record) line_takes;
+        between = step_goes_on c o script rest n ready.journal r (side_view station.side) reads t ready.between line after first (record_view meter.record) line_takes (omega (arith, station.meter.record.seq_in_range)) can_print _ text t' reads' turned gives of;
+        head = ready.head;
+        bus = ready.bus;
+      }
+
+  module _ (t' : Trace) (reads' : List ℕ) (same : reads' ≡ reads) (of : IsImage t' reads') where
+    pub message_leads : {T : Type 0} (message : List ℕ) (optical : Optical) (result : Result T Ended) → SaysAt n line (Opt message) → Heard (config_view station.meter.config) (Some message) optical
+        → ShowsReply (config_view station.meter.config) r ready.journal.last_message message t result t' → Leads c o script after (n + 1) (record station { optical = optical }) reads' t' result
+    message_leads message optical (Ok u) says heard shows = record {
+      journal = head_journal c o script rest n ready.journal r (side_view station.side) reads t ready.between line after first (omega (arith, station.meter.record.seq_in_range)) message says;
+      between = message_goes_on c o script rest n ready.journal r (side_view station.side) reads t ready.between line after first (omega (arith, station.meter.record.seq_in_range)) message says u t' reads'
+          (subst (λ (k : Configuration). ShowsReply k r ready.journal.last_message message t (Ok u) t') (sym is) shows) same of;
+      head = subst (λ (k : Configuration). Heard k (Some message) optical) (sym is) heard;
+      bus = ready.bus;
+    }
+    message_leads {T} message optical (Err ended) says heard shows =
+        message_ends c o script rest n ready.journal r (side_view station.side) reads t ready.between line after first (omega (arith, station.meter.record.seq_in_range)) message says {T = T} t' ended
+        (subst (λ (k : Configuration). ShowsReply k r ready.journal.last_message message {T = T} t (Err ended) t') (sym is) shows)
+
+    pub bytes_lead : {T : Type 0} (bytes : List ℕ) (slave : Slave) (result : Result T Ended) → SaysAt n line (Mbus bytes)
+        → ShowsOnBus (config_view station.meter.config) r ready.journal.frames bytes slave t result t' → Leads c o script after (n + 1) (record station { slave = slave }) reads' t' result
+    bytes_lead bytes slave (Ok u) says shows =
+        let on = bytes_go_on c o script rest n ready.journal r (side_view station.side) reads t ready.between line after first (omega (arith, station.meter.record.seq_in_range)) bytes says u slave t' reads'
+        (subst (λ (k : Configuration). ShowsOnBus k r ready.journal.frames bytes slave t (Ok u) t') (sym is) shows) same of in
+        record { journal = on.journal; between = on.between; head = subst (λ last. Heard c last station.optical) (sym on.head) ready.head; bus = on.bus }
+    bytes_lead {T} bytes slave (Err ended) says shows =
+        bytes_end c o script rest n ready.journal r (side_view station.side) reads t ready.between line after first (omega (arith, station.meter.record.seq_in_range)) bytes says {T = T} slave t' ended
+        (subst (λ (k : Configuration). ShowsOnBus k r ready.journal.frames bytes slave {T = T} t (Err ended) t') (sym is) shows)

@@ -1,0 +1,138 @@
+//! The answers to lines: what the memory then holds, and what goes out.
+ghost use Rattle.std.specs.Prelude.{◌≡◌, ◌≤◌, ◌<◌, ℕ, List, Option, Some, IfErr, IsErrOf, length};
+ghost use Rattle.std.specs.Option.{option_map};
+ghost use Rattle.trace_model.specs.Trace.{base_of};
+ghost use Rattle.trace_model.specs.Images.{NothingPending};
+ghost use Rattle.config_model.specs.Configuration.{Configuration};
+ghost use Rattle.metering_model.specs.Records as metering;
+ghost use Rattle.memory_model.specs.Stored.{Holds};
+ghost use Rattle.journal_model.specs.Texts.{ok_text};
+ghost use Rattle.slave_model.specs.Heard as slaves;
+ghost use Rattle.billing_memory.specs.Records.{record_view};
+ghost use Rattle.meter_config.specs.Views.{config_view, settings_of};
+ghost use Rattle.meter_board.specs.Causes.{Rose};
+ghost use Rattle.optical_readout.specs.Heard.{Heard};
+ghost use Rattle.mbus_records.specs.State.{IsAfter};
+ghost use Rattle.register_store.specs.Commits.{StandsFor, StandsOn};
+ghost use Rattle.register_store.specs.Recovered.{side_view};
+ghost use Rattle.run_engine.specs.Ran.{AnswersLines};
+ghost use Rattle.run_engine.specs.Shows.{RepliesOnBus, ShowGives, ShowsOnBus, ShowsReply};
+ghost use Rattle.run_engine.specs.Steps.{StepGives};
+
+use crate::Ended;
+use crate::text::{ok_line, readout_line};
+use arrayvec::ArrayVec;
+use mbus_link::{parse, write};
+use mbus_records::Slave;
+use meter_board::{Board, Failed};
+use meter_core::Meter;
+use optical_readout::Optical;
+use register_store::{Side, StoreFault, commit};
+
+/// Lets the memory hold the meter's record, and then shows it. Answers the side that holds it.
+pub(crate) fn acknowledge<B: Board>(meter: &Meter, side: Side, board: &mut B) -> Result<Side, Ended>
+    requires settled { B.tells → NothingPending (B.trace board.old) }
+    requires stands { B.tells → StandsOn (side_view side) (B.reads board.old) }
+    ensures gives { B.tells → (c : Configuration) (r : metering.MeterRecord) → StandsFor (Holds c r (side_view side)) (B.reads board.old)
+        → StepGives c (side_view side) r (record_view meter.now.record) (ok_text (settings_of meter.now.config) (record_view meter.now.record)) (B.trace board.old) result (B.trace board.new) (B.reads board.new) }
+    ensures base { B.tells → base_of (B.trace board.new) ≡ base_of (B.trace board.old) }
+    ensures memory { IsErrOf result Ended.Memory → Rose (B.memory_faults board.old) (B.memory_faults board.new) }
+    ensures write { IsErrOf result Ended.Write → Rose (B.output_faults board.old) (B.output_faults board.new) }
+    ensures cut { IsErrOf result Ended.Cut → Rose (B.cuts board.old) (B.cuts board.new) }
+    ensures kind { IfErr result AnswersLines }
+    ensures memory_faults { B.memory_faults board.old ≤ B.memory_faults board.new }
+    ensures output_faults { B.output_faults board.old ≤ B.output_faults board.new }
+    ensures cuts { B.cuts board.old ≤ B.cuts board.new }
+{
+    let turned = match commit(board, side, meter.state()) {
+        Ok(turned) => turned,
+        Err(StoreFault::Cut) => return Err(Ended::Cut),
+        Err(_) => return Err(Ended::Memory),
+    };
+    let text = ok_line(meter.state(), meter.config().per_pulse);
+    match board.put(text.as_str().as_bytes()) {
+        Ok(()) => Ok(turned),
+        Err(Failed) => Err(Ended::Write),
+    }
+}
+
+/// Hears a message at the optical head, and shows the reply.
+pub(crate) fn answer_message<B: Board>(
+    message: &[u8],
+    meter: &Meter,
+    optical: &mut Optical,
+    board: &mut B,
+) -> Result<(), Ended>
+    ensures shows { B.tells → (last : Option (List ℕ)) → Heard (config_view meter.now.config) last optical.old
+        → ShowsReply (config_view meter.now.config) (record_view meter.now.record) last message.now (B.trace board.old) result (B.trace board.new) }
+    ensures heard { Heard (config_view meter.now.config) (Some message.now) optical.new }
+    ensures base { B.tells → base_of (B.trace board.new) ≡ base_of (B.trace board.old) }
+    ensures reads { B.tells → B.reads board.new ≡ B.reads board.old }
+    ensures only { IfErr result (λ e. e ≡ Ended.Write) }
+    ensures write { IsErrOf result Ended.Write → Rose (B.output_faults board.old) (B.output_faults board.new) }
+    ensures memory_faults { B.memory_faults board.old ≤ B.memory_faults board.new }
+    ensures output_faults { B.output_faults board.old ≤ B.output_faults board.new }
+    ensures cuts { B.cuts board.old ≤ B.cuts board.new }
+{
+    let reply = optical.hear(message, meter.config(), meter.state());
+    let text = readout_line("opt", meter.state(), bytes_of(&reply));
+    show(text.as_slice(), board)
+}
+
+/// Hears bytes on the bus, and shows the reply.
+pub(crate) fn answer_bytes<B: Board>(
+    bytes: &[u8],
+    meter: &Meter,
+    slave: &mut Slave,
+    board: &mut B,
+) -> Result<(), Ended>
+    ensures shows { B.tells → (heard : List slaves.Heard) → IsAfter (config_view meter.now.config) heard slave.old
+        → ShowsOnBus (config_view meter.now.config) (record_view meter.now.record) heard bytes.now slave.new (B.trace board.old) result (B.trace board.new) }
+    ensures base { B.tells → base_of (B.trace board.new) ≡ base_of (B.trace board.old) }
+    ensures reads { B.tells → B.reads board.new ≡ B.reads board.old }
+    ensures only { IfErr result (λ e. e ≡ Ended.Write) }
+    ensures write { IsErrOf result Ended.Write → Rose (B.output_faults board.old) (B.output_faults board.new) }
+    ensures memory_faults { B.memory_faults board.old ≤ B.memory_faults board.new }
+    ensures output_faults { B.output_faults board.old ≤ B.output_faults board.new }
+    ensures cuts { B.cuts board.old ≤ B.cuts board.new }
+{
+    let reply = hear_bytes(bytes, meter, slave);
+    let text = readout_line("mbus", meter.state(), bytes_of(&reply));
+    show(text.as_slice(), board)
+}
+
+/// Hears bytes on the bus, where they are a frame. Answers the bytes of the reply.
+fn hear_bytes(bytes: &[u8], meter: &Meter, slave: &mut Slave) -> Option<ArrayVec<u8, 261>>
+    ensures { (heard : List slaves.Heard) → IsAfter (config_view meter.now.config) heard slave.old
+        → RepliesOnBus (config_view meter.now.config) (record_view meter.now.record) heard bytes.now (option_map (λ b. b.items) result) slave.new }
+{
+    let frame = parse(bytes)?;
+    let reply = slave.hear(&frame, meter.config(), meter.state())?;
+    Some(write(&reply))
+}
+
+fn bytes_of<const N: usize>(reply: &Option<ArrayVec<u8, N>>) -> Option<&[u8]>
+    ensures { option_map (λ b. b.now) result ≡ option_map (λ b. b.items) reply.now }
+{
+    match reply {
+        Some(bytes) => Some(bytes.as_slice()),
+        None => None,
+    }
+}
+
+/// Puts a text out.
+fn show<B: Board>(text: &[u8], board: &mut B) -> Result<(), Ended>
+    requires { 0 < length text.now }
+    ensures gives { B.tells → ShowGives (B.trace board.old) text.now result (B.trace board.new) }
+    ensures reads { B.tells → B.reads board.new ≡ B.reads board.old }
+    ensures only { IfErr result (λ e. e ≡ Ended.Write) }
+    ensures write { IsErrOf result Ended.Write → Rose (B.output_faults board.old) (B.output_faults board.new) }
+    ensures memory_faults { B.memory_faults board.old ≤ B.memory_faults board.new }
+    ensures output_faults { B.output_faults board.old ≤ B.output_faults board.new }
+    ensures cuts { B.cuts board.old ≤ B.cuts board.new }
+{
+    match board.put(text) {
+        Ok(()) => Ok(()),
+        Err(Failed) => Err(Ended::Write),
+    }
+}
