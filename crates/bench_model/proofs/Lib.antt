@@ -1,1 +1,2 @@
 pub mod Steady
+mod Worked

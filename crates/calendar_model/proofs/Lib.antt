@@ -1,3 +1,4 @@
 pub mod DayLemmas
 pub mod MonthLemmas
 pub mod EntryLemmas
+pub mod Worked

@@ -1,4 +1,4 @@
--- A text at its first space, and a script at its first LF.
+-- A text at its first space.
 use Rattle.std.proofs.Common.{◌≡◌, ℕ, ◌+◌, ◌-◌, ◌<◌, ◌≤◌, ◌==◌, nat_lt, not, Bool, true, false, cond, List, [], ◌∷◌, Some, None, Err, take, drop, length, refl, arith, sym, subst}
 use Rattle.std.specs.List.{position, position_or_len, slice_split, onto_first}
 use Rattle.std.proofs.lemmas.List.Splits.{slice_split_first}
@@ -6,7 +6,7 @@ use Rattle.std.proofs.lemmas.List.{length-drop}
 use Rattle.std.proofs.Math.Seq.{take-length}
 use Rattle.std.proofs.lemmas.Bool.{ltb-true, ltb-false}
 use Rattle.std.proofs.lemmas.Grind.{common_steps}
-use Rattle.script_model.specs.Lines.{words_of, lines_of}
+use Rattle.script_model.specs.Lines.{words_of}
 use Rattle.script_model.specs.Grammar.{end_at}
 
 -- what `position` says of the first place
@@ -18,10 +18,10 @@ none_step : (b : Bool) (n : ℕ) → cond b (Some n) None ≡ None → b ≡ fal
 none_step true n e = cc
 none_step false n e = refl
 
-place : (p : ℕ → Bool) (xs : List ℕ) (at : ℕ) → position p xs ≡ Some at → (position_or_len p xs ≡ at) × (position_or_len p xs < length xs)
+pub place : (p : ℕ → Bool) (xs : List ℕ) (at : ℕ) → position p xs ≡ Some at → (position_or_len p xs ≡ at) × (position_or_len p xs < length xs)
 place p xs at e = let h = some_step (nat_lt (position_or_len p xs) (length xs)) (position_or_len p xs) at e in (h.1, ltb-true _ _ h.0)
 
-no_place : (p : ℕ → Bool) (xs : List ℕ) → position p xs ≡ None → length xs ≤ position_or_len p xs
+pub no_place : (p : ℕ → Bool) (xs : List ℕ) → position p xs ≡ None → length xs ≤ position_or_len p xs
 no_place p xs e = ltb-false _ _ (none_step (nat_lt (position_or_len p xs) (length xs)) (position_or_len p xs) e)
 
 -- what `&xs[n..]` has
@@ -44,32 +44,6 @@ whole_word (c ∷ cs) h = word_step (c == 32) c cs (whole_word cs) h
 
 pub one_word : (line : List ℕ) → position (λ c. c == 32) line ≡ None → words_of line ≡ line ∷ []
 one_word line e = whole_word line (no_place (λ c. c == 32) line e)
-
-line_step : (b : Bool) (c : ℕ) (cs : List ℕ) (n : ℕ) → (n < length cs → lines_of cs ≡ take n cs ∷ lines_of (drop (n + 1) cs)) → cond (not b) (1 + n) 0 < length (c ∷ cs) → cond b ([] ∷ lines_of cs) (onto_first c (lines_of cs)) ≡ take (cond (not b) (1 + n) 0) (c ∷ cs) ∷ lines_of (drop (cond (not b) (1 + n) 0 + 1) (c ∷ cs))
-line_step true c cs n ih h = refl
-line_step false c cs n ih h = rw (ih (omega arith)) (grind (arith, common_steps))
-
-first_line : (s : List ℕ) → position_or_len (λ d. d == 10) s < length s → lines_of s ≡ take (position_or_len (λ d. d == 10) s) s ∷ lines_of (drop (position_or_len (λ d. d == 10) s + 1) s)
-first_line [] h = absurd (omega arith)
-first_line (c ∷ cs) h = line_step (c == 10) c cs (position_or_len (λ d. d == 10) cs) (first_line cs) h
-
-pub lines_at : (s : List ℕ) (at : ℕ) → position (λ c. c == 10) s ≡ Some at → lines_of s ≡ take at s ∷ lines_of (take (length s - (at + 1)) (drop (at + 1) s))
-lines_at s at e =
-    let h = place (λ c. c == 10) s at e in
-    subst (λ n. lines_of s ≡ take n s ∷ lines_of (take (length s - (n + 1)) (drop (n + 1) s))) h.0
-    (subst (λ xs. lines_of s ≡ take (position_or_len (λ d. d == 10) s) s ∷ lines_of xs) (tail s _) (first_line s h.1))
-
-last_step : (b : Bool) (c : ℕ) (cs : List ℕ) → (0 < length cs → length cs ≤ position_or_len (λ d. d == 10) cs → lines_of cs ≡ cs ∷ []) → length (c ∷ cs) ≤ cond (not b) (1 + position_or_len (λ d. d == 10) cs) 0 → cond b ([] ∷ lines_of cs) (onto_first c (lines_of cs)) ≡ (c ∷ cs) ∷ []
-last_step true c cs ih h = absurd (omega arith)
-last_step false c [] ih h = refl
-last_step false c (d ∷ ds) ih h = rw (ih (omega arith) (omega arith)) refl
-
-whole_line : (s : List ℕ) → 0 < length s → length s ≤ position_or_len (λ d. d == 10) s → lines_of s ≡ s ∷ []
-whole_line [] some h = absurd (omega arith)
-whole_line (c ∷ cs) some h = last_step (c == 10) c cs (whole_line cs) h
-
-pub one_line : (s : List ℕ) → position (λ c. c == 10) s ≡ None → 0 < length s → lines_of s ≡ s ∷ []
-one_line s e some = whole_line s some (no_place (λ c. c == 10) s e)
 
 some_part : (b : Bool) (x : ℕ) (parts : List (List ℕ)) → 0 < length (cond b ([] ∷ parts) (onto_first x parts))
 some_part true x parts = omega arith

@@ -1,3 +1,7 @@
 pub mod Cuts
 pub mod Dates
 pub mod Numbers
+pub mod Held
+pub mod Ends
+pub mod Nexts
+pub mod Says

@@ -1,1 +1,4 @@
 pub mod Views
+pub mod Next
+pub mod Held
+pub mod Filled

@@ -1,18 +1,24 @@
 //! The lines of a script: what each says, or why it is refused.
 #![tactic(auto)]
 
+mod buffer;
 mod date;
+mod lines;
+#[cfg(test)]
+mod lines_tests;
 mod message;
+mod next;
 mod number;
 mod read;
 mod words;
 
 use billing_memory::Day;
+pub use lines::Lines;
 pub use message::Message;
+pub use next::Next;
 pub use number::number_word;
 pub use read::read_line;
 use thiserror::Error;
-pub use words::split_line;
 
 /// A metering event.
 #[derive(Clone, Copy, Debug, PartialEq, Eq)]

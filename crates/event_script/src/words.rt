@@ -1,11 +1,11 @@
-//! A script and its lines, cut at a byte.
-ghost use Rattle.std.specs.Prelude.{◌≡◌, ◌+◌, ◌∷◌, ◌<◌, ◌==◌, MatchOption, length};
+//! The words of a line, cut at a space.
+ghost use Rattle.std.specs.Prelude.{◌≡◌, ◌+◌, ◌∷◌, ◌==◌, MatchOption, length};
 ghost use Rattle.std.specs.List.{position};
 ghost use Rattle.std.specs.Option.{option_map};
-ghost use Rattle.script_model.specs.Lines.{words_of, lines_of};
+ghost use Rattle.script_model.specs.Lines.{words_of};
 ghost use Rattle.event_script.specs.Views.{rest_words};
 
-fn place_of(bytes: &[u8], byte: u8) -> Option<usize>
+pub(crate) fn place_of(bytes: &[u8], byte: u8) -> Option<usize>
     ensures { result ≡ position (λ c. c == byte) bytes.now }
 {
     bytes.iter().position(|c| *c == byte)
@@ -21,18 +21,5 @@ pub fn split_word(line: &[u8]) -> (&[u8], Option<&[u8]>)
     match place_of(line, b' ') {
         Some(at) => (&line[..at], Some(&line[at + 1..])),
         None => (line, None),
-    }
-}
-
-/// The first line of a script that is not empty, and the bytes behind its LF.
-#[tactic(auto, using(crate::proofs::Cuts::lines_at, crate::proofs::Cuts::one_line))]
-pub fn split_line(script: &[u8]) -> (&[u8], &[u8])
-    requires { 0 < length script.now }
-    ensures lines { lines_of script.now ≡ result.0.now ∷ lines_of result.1.now }
-    ensures shorter { length result.1.now < length script.now }
-{
-    match place_of(script, b'\n') {
-        Some(at) => (&script[..at], &script[at + 1..]),
-        None => (script, &[]),
     }
 }

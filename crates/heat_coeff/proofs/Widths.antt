@@ -117,48 +117,46 @@ small_volumes size c a e least h =
     let more : c * (64851834634135 * 64851834634135) ≤ c * (a * (a + e)) = mul-le-mul_left c square in
     omega (arith, h, more)
 
-litre_quotient : (z dlo dhi : ℤ) (a w : ℕ) → 9 * 2 ^ 56 ≤ a * 10000 → ((dhi -ℤ dlo) *ℤ pos (10 ^ 9)) ≤ℤ pos ((2000 + 150 * w) * 2 ^ 48)
-    → (z *ℤ pos a) ≤ℤ (dhi *ℤ pos 256000 -ℤ dlo *ℤ pos 256000) → (pos 6 *ℤ z) ≤ℤ pos (14 + w)
+litre_quotient : (z dlo dhi : ℤ) (a w : ℕ) → 9 * 2 ^ 56 ≤ a * 10000 → ((dhi -ℤ dlo) *ℤ pos (10 ^ 9)) ≤ℤ pos ((74 + 116 * w) * 2 ^ 48)
+    → (z *ℤ pos a) ≤ℤ (dhi *ℤ pos 256000 -ℤ dlo *ℤ pos 256000) → (pos 900 *ℤ z) ≤ℤ pos (74 + 116 * w)
 litre_quotient (pos n) dlo dhi a w least narrow h =
     let t : n * (9 * 2 ^ 56) ≤ n * (a * 10000) = mul-le-mul_left n least in
     omega (arith, ints, t, narrow, h)
 litre_quotient (negsuc n) dlo dhi a w least narrow h = omega (arith, ints)
 
-litre_apart : (a b e wf wr : ℕ) (dlo dhi : ℤ) → b ≡ a + e → 9 * 2 ^ 56 ≤ a * 10000 → e * 10 ^ 15 ≤ 10000 * 2 ^ 56 → dlo ≤ℤ dhi → neg_ℤ (pos (1200 * 2 ^ 48)) ≤ℤ dlo → dhi ≤ℤ pos (1200 * 2 ^ 48)
-    → ((dhi -ℤ dlo) *ℤ pos (10 ^ 9)) ≤ℤ pos ((2000 + 150 * (wf + wr)) * 2 ^ 48)
-    → (pos 6 *ℤ (greatest_ceil (dhi *ℤ pos 256000) (a * 1) (b * 1) -ℤ least_floor (dlo *ℤ pos 256000) (a * 1) (b * 1))) ≤ℤ pos (600 + wf + wr)
+litre_apart : (a b e wf wr : ℕ) (dlo dhi : ℤ) → b ≡ a + e → 9 * 2 ^ 56 ≤ a * 10000 → e * 10 ^ 15 ≤ 9077 * 2 ^ 56 → dlo ≤ℤ dhi → neg_ℤ (pos (1200 * 2 ^ 48)) ≤ℤ dlo → dhi ≤ℤ pos (1200 * 2 ^ 48)
+    → ((dhi -ℤ dlo) *ℤ pos (10 ^ 9)) ≤ℤ pos ((74 + 116 * (wf + wr)) * 2 ^ 48)
+    → (pos 15 *ℤ (greatest_ceil (dhi *ℤ pos 256000) (a * 1) (b * 1) -ℤ least_floor (dlo *ℤ pos 256000) (a * 1) (b * 1))) ≤ℤ pos (241 + 2 * (wf + wr))
 litre_apart a b e wf wr dlo dhi wider least close order low high narrow =
     let far = apart_ends 256000 1 a b e dlo dhi wider (lit< tt) (omega arith) order low high in
-    let small : (1200 * 2 ^ 48 * 256000) * e ≤ 15 * (a * (a + e)) = small_volumes (1200 * 2 ^ 48 * 256000) 15 a e least (omega arith) in
+    let small : (1200 * 2 ^ 48 * 256000) * e ≤ 14 * (a * (a + e)) = small_volumes (1200 * 2 ^ 48 * 256000) 14 a e least (omega arith) in
     let y = (greatest_ceil (dhi *ℤ pos 256000) (a * 1) (b * 1) -ℤ least_floor (dlo *ℤ pos 256000) (a * 1) (b * 1) -ℤ pos 2) *ℤ pos 1 in
-    let short = without_divisor (1200 * 2 ^ 48 * 256000) 15 a e y (dhi *ℤ pos 256000 -ℤ dlo *ℤ pos 256000) (omega arith) small far in
-    litre_width (greatest_ceil (dhi *ℤ pos 256000) (a * 1) (b * 1)) (least_floor (dlo *ℤ pos 256000) (a * 1) (b * 1)) (litre_quotient (y -ℤ pos 15) dlo dhi a (wf + wr) least narrow short)
+    let short = without_divisor (1200 * 2 ^ 48 * 256000) 14 a e y (dhi *ℤ pos 256000 -ℤ dlo *ℤ pos 256000) (omega arith) small far in
+    litre_width (greatest_ceil (dhi *ℤ pos 256000) (a * 1) (b * 1)) (least_floor (dlo *ℤ pos 256000) (a * 1) (b * 1)) (wf + wr) (litre_quotient (y -ℤ pos 14) dlo dhi a (wf + wr) least narrow short)
   where
-    litre_width : (hi lo : ℤ) → (pos 6 *ℤ ((hi -ℤ lo -ℤ pos 2) *ℤ pos 1 -ℤ pos 15)) ≤ℤ pos (14 + (wf + wr)) → (pos 6 *ℤ (hi -ℤ lo)) ≤ℤ pos (600 + wf + wr)
-    litre_width hi lo h = omega (arith, ints, h)
+    litre_width : (hi lo : ℤ) (w : ℕ) → (pos 900 *ℤ ((hi -ℤ lo -ℤ pos 2) *ℤ pos 1 -ℤ pos 14)) ≤ℤ pos (74 + 116 * w) → (pos 15 *ℤ (hi -ℤ lo)) ≤ℤ pos (241 + 2 * w)
+    litre_width hi lo w h = omega (arith, ints, h)
 
 -- ---- the heat coefficient
-factor_quotient : (z dlo dhi : ℤ) (a : ℕ) → 9 * 2 ^ 56 ≤ a * 10000 → ((dhi -ℤ dlo) *ℤ pos (10 ^ 9)) ≤ℤ pos (2000 * 2 ^ 48)
-    → (z *ℤ pos a) ≤ℤ (dhi *ℤ pos 256000000000000 -ℤ dlo *ℤ pos 256000000000000) → z ≤ℤ pos 3000000000
+factor_quotient : (z dlo dhi : ℤ) (a : ℕ) → 9 * 2 ^ 56 ≤ a * 10000 → ((dhi -ℤ dlo) *ℤ pos (10 ^ 9)) ≤ℤ pos (74 * 2 ^ 48)
+    → (z *ℤ pos a) ≤ℤ (dhi *ℤ pos 256000000000000 -ℤ dlo *ℤ pos 256000000000000) → z ≤ℤ pos 83000000
 factor_quotient (pos n) dlo dhi a least narrow h =
     let t : n * (9 * 2 ^ 56) ≤ n * (a * 10000) = mul-le-mul_left n least in
     omega (arith, ints, t, narrow, h)
 factor_quotient (negsuc n) dlo dhi a least narrow h = omega (arith, ints)
 
-factor_apart : (m a b e : ℕ) (dlo dhi : ℤ) → b ≡ a + e → 0 < m → 9 * 2 ^ 56 ≤ a * 10000 → e * 10 ^ 15 ≤ 1000 * 2 ^ 56 → dlo ≤ℤ dhi → neg_ℤ (pos (1200 * 2 ^ 48)) ≤ℤ dlo → dhi ≤ℤ pos (1200 * 2 ^ 48)
-    → ((dhi -ℤ dlo) *ℤ pos (10 ^ 9)) ≤ℤ pos (2000 * 2 ^ 48)
-    → ((greatest_ceil (dhi *ℤ pos 256000000000000) (a * m) (b * m) -ℤ least_floor (dlo *ℤ pos 256000000000000) (a * m) (b * m) -ℤ pos 1000) *ℤ pos m) ≤ℤ pos (10 ^ 10)
+factor_apart : (m a b e : ℕ) (dlo dhi : ℤ) → b ≡ a + e → 0 < m → 9 * 2 ^ 56 ≤ a * 10000 → e * 10 ^ 15 ≤ 77 * 2 ^ 56 → dlo ≤ℤ dhi → neg_ℤ (pos (1200 * 2 ^ 48)) ≤ℤ dlo → dhi ≤ℤ pos (1200 * 2 ^ 48)
+    → ((dhi -ℤ dlo) *ℤ pos (10 ^ 9)) ≤ℤ pos (74 * 2 ^ 48)
+    → ((greatest_ceil (dhi *ℤ pos 256000000000000) (a * m) (b * m) -ℤ least_floor (dlo *ℤ pos 256000000000000) (a * m) (b * m) -ℤ pos 2) *ℤ pos m) ≤ℤ pos (2 * 10 ^ 8)
 factor_apart m a b e dlo dhi wider m_above least close order low high narrow =
     let far = apart_ends 256000000000000 m a b e dlo dhi wider m_above (omega arith) order low high in
-    let small : (1200 * 2 ^ 48 * 256000000000000) * e ≤ 1500000000 * (a * (a + e)) = small_volumes (1200 * 2 ^ 48 * 256000000000000) 1500000000 a e least (omega arith) in
+    let small : (1200 * 2 ^ 48 * 256000000000000) * e ≤ 115000000 * (a * (a + e)) = small_volumes (1200 * 2 ^ 48 * 256000000000000) 115000000 a e least (omega arith) in
     let y = (greatest_ceil (dhi *ℤ pos 256000000000000) (a * m) (b * m) -ℤ least_floor (dlo *ℤ pos 256000000000000) (a * m) (b * m) -ℤ pos 2) *ℤ pos m in
-    let short = without_divisor (1200 * 2 ^ 48 * 256000000000000) 1500000000 a e y (dhi *ℤ pos 256000000000000 -ℤ dlo *ℤ pos 256000000000000) (omega arith) small far in
-    factor_width (greatest_ceil (dhi *ℤ pos 256000000000000) (a * m) (b * m)) (least_floor (dlo *ℤ pos 256000000000000) (a * m) (b * m)) m (factor_quotient (y -ℤ pos 1500000000) dlo dhi a least narrow short)
+    let short = without_divisor (1200 * 2 ^ 48 * 256000000000000) 115000000 a e y (dhi *ℤ pos 256000000000000 -ℤ dlo *ℤ pos 256000000000000) (omega arith) small far in
+    factor_width (greatest_ceil (dhi *ℤ pos 256000000000000) (a * m) (b * m)) (least_floor (dlo *ℤ pos 256000000000000) (a * m) (b * m)) m (factor_quotient (y -ℤ pos 115000000) dlo dhi a least narrow short)
   where
-    factor_width : (hi lo : ℤ) (m : ℕ) → ((hi -ℤ lo -ℤ pos 2) *ℤ pos m -ℤ pos 1500000000) ≤ℤ pos 3000000000 → ((hi -ℤ lo -ℤ pos 1000) *ℤ pos m) ≤ℤ pos (10 ^ 10)
-    factor_width hi lo m h =
-        let less : ((hi -ℤ lo -ℤ pos 1000) *ℤ pos m) ≤ℤ ((hi -ℤ lo -ℤ pos 2) *ℤ pos m) = mul-le_pos m (omega (arith, ints)) in
-        omega (arith, ints, h, less)
+    factor_width : (hi lo : ℤ) (m : ℕ) → ((hi -ℤ lo -ℤ pos 2) *ℤ pos m -ℤ pos 115000000) ≤ℤ pos 83000000 → ((hi -ℤ lo -ℤ pos 2) *ℤ pos m) ≤ℤ pos (2 * 10 ^ 8)
+    factor_width hi lo m h = omega (arith, ints, h)
 
 -- ---- the ends for the enclosures of the code
 volumes : (vlo vhi : ℤ) (per : ℕ) → vlo ≤ℤ vhi → pos (9 * 2 ^ 56) ≤ℤ (vlo *ℤ pos 10000) → ((vhi -ℤ vlo) *ℤ pos (10 ^ 15)) ≤ℤ pos (per * 2 ^ 56)
@@ -169,39 +167,47 @@ volumes (pos a) (pos b) per order least width =
     let up : a ≤ b = omega (arith, ints, order) in
     (omega (arith, ints, least), omega (arith, ints, width, up), omega (arith, up))
 
-pub litre_ends : (vlo vhi dlo dhi : ℤ) (wf wr : ℕ) → vlo ≤ℤ vhi → pos (9 * 2 ^ 56) ≤ℤ (vlo *ℤ pos 10000) → ((vhi -ℤ vlo) *ℤ pos (10 ^ 15)) ≤ℤ pos (10000 * 2 ^ 56)
-    → dlo ≤ℤ dhi → neg_ℤ (pos (1200 * 2 ^ 48)) ≤ℤ dlo → dhi ≤ℤ pos (1200 * 2 ^ 48) → ((dhi -ℤ dlo) *ℤ pos (10 ^ 9)) ≤ℤ pos ((2000 + 150 * (wf + wr)) * 2 ^ 48)
-    → (pos 6 *ℤ (greatest_ceil (dhi *ℤ pos 256000) (unsigned_abs vlo * 1) (unsigned_abs vhi * 1) -ℤ least_floor (dlo *ℤ pos 256000) (unsigned_abs vlo * 1) (unsigned_abs vhi * 1))) ≤ℤ pos (600 + wf + wr)
+pub litre_ends : (vlo vhi dlo dhi : ℤ) (wf wr : ℕ) → vlo ≤ℤ vhi → pos (9 * 2 ^ 56) ≤ℤ (vlo *ℤ pos 10000) → ((vhi -ℤ vlo) *ℤ pos (10 ^ 15)) ≤ℤ pos (9077 * 2 ^ 56)
+    → dlo ≤ℤ dhi → neg_ℤ (pos (1200 * 2 ^ 48)) ≤ℤ dlo → dhi ≤ℤ pos (1200 * 2 ^ 48) → ((dhi -ℤ dlo) *ℤ pos (10 ^ 9)) ≤ℤ pos ((74 + 116 * (wf + wr)) * 2 ^ 48)
+    → (pos 15 *ℤ (greatest_ceil (dhi *ℤ pos 256000) (unsigned_abs vlo * 1) (unsigned_abs vhi * 1) -ℤ least_floor (dlo *ℤ pos 256000) (unsigned_abs vlo * 1) (unsigned_abs vhi * 1))) ≤ℤ pos (241 + 2 * (wf + wr))
 litre_ends vlo vhi dlo dhi wf wr rising least close order low high narrow =
-    let v = volumes vlo vhi 10000 rising least close in
+    let v = volumes vlo vhi 9077 rising least close in
     litre_apart (unsigned_abs vlo) (unsigned_abs vhi) _ wf wr dlo dhi v.2 v.0 v.1 order low high narrow
 
-pub factor_ends : (m : ℕ) (vlo vhi dlo dhi : ℤ) → 0 < m → vlo ≤ℤ vhi → pos (9 * 2 ^ 56) ≤ℤ (vlo *ℤ pos 10000) → ((vhi -ℤ vlo) *ℤ pos (10 ^ 15)) ≤ℤ pos (1000 * 2 ^ 56)
-    → dlo ≤ℤ dhi → neg_ℤ (pos (1200 * 2 ^ 48)) ≤ℤ dlo → dhi ≤ℤ pos (1200 * 2 ^ 48) → ((dhi -ℤ dlo) *ℤ pos (10 ^ 9)) ≤ℤ pos (2000 * 2 ^ 48)
-    → ((greatest_ceil (dhi *ℤ pos 256000000000000) (unsigned_abs vlo * m) (unsigned_abs vhi * m) -ℤ least_floor (dlo *ℤ pos 256000000000000) (unsigned_abs vlo * m) (unsigned_abs vhi * m) -ℤ pos 1000) *ℤ pos m) ≤ℤ pos (10 ^ 10)
-factor_ends m vlo vhi dlo dhi above rising least close order low high narrow =
-    let v = volumes vlo vhi 1000 rising least close in
-    factor_apart m (unsigned_abs vlo) (unsigned_abs vhi) _ dlo dhi v.2 above v.0 v.1 order low high narrow
+-- at the coarser width
+coarser : (hi lo : ℤ) (m : ℕ) → ((hi -ℤ lo -ℤ pos 2) *ℤ pos m) ≤ℤ pos (2 * 10 ^ 8) → ((hi -ℤ lo -ℤ pos 1000) *ℤ pos m) ≤ℤ pos (10 ^ 10)
+coarser hi lo m h =
+    let less : ((hi -ℤ lo -ℤ pos 1000) *ℤ pos m) ≤ℤ ((hi -ℤ lo -ℤ pos 2) *ℤ pos m) = mul-le_pos m (omega (arith, ints)) in
+    omega (arith, ints, h, less)
 
--- the ends are at most 2 * 10^9 from 0
-litre_room : (n : ℤ) (a : ℕ) → 9 * 2 ^ 56 ≤ a * 10000 → neg_ℤ (pos (1200 * 2 ^ 48)) ≤ℤ n → neg_ℤ (pos (2000000000 * (a * 1))) ≤ℤ (n *ℤ pos 256000)
+pub factor_ends : (m : ℕ) (vlo vhi dlo dhi : ℤ) → 0 < m → vlo ≤ℤ vhi → pos (9 * 2 ^ 56) ≤ℤ (vlo *ℤ pos 10000) → ((vhi -ℤ vlo) *ℤ pos (10 ^ 15)) ≤ℤ pos (77 * 2 ^ 56)
+    → dlo ≤ℤ dhi → neg_ℤ (pos (1200 * 2 ^ 48)) ≤ℤ dlo → dhi ≤ℤ pos (1200 * 2 ^ 48) → ((dhi -ℤ dlo) *ℤ pos (10 ^ 9)) ≤ℤ pos (74 * 2 ^ 48)
+    → ((((greatest_ceil (dhi *ℤ pos 256000000000000) (unsigned_abs vlo * m) (unsigned_abs vhi * m) -ℤ least_floor (dlo *ℤ pos 256000000000000) (unsigned_abs vlo * m) (unsigned_abs vhi * m) -ℤ pos 2) *ℤ pos m) ≤ℤ pos (2 * 10 ^ 8))
+    × (((greatest_ceil (dhi *ℤ pos 256000000000000) (unsigned_abs vlo * m) (unsigned_abs vhi * m) -ℤ least_floor (dlo *ℤ pos 256000000000000) (unsigned_abs vlo * m) (unsigned_abs vhi * m) -ℤ pos 1000) *ℤ pos m) ≤ℤ pos (10 ^ 10)))
+factor_ends m vlo vhi dlo dhi above rising least close order low high narrow =
+    let v = volumes vlo vhi 77 rising least close in
+    let near = factor_apart m (unsigned_abs vlo) (unsigned_abs vhi) _ dlo dhi v.2 above v.0 v.1 order low high narrow in
+    (near, coarser (greatest_ceil (dhi *ℤ pos 256000000000000) (unsigned_abs vlo * m) (unsigned_abs vhi * m)) (least_floor (dlo *ℤ pos 256000000000000) (unsigned_abs vlo * m) (unsigned_abs vhi * m)) m near)
+
+-- the ends are at most 1.4 * 10^9 from 0
+litre_room : (n : ℤ) (a : ℕ) → 9 * 2 ^ 56 ≤ a * 10000 → neg_ℤ (pos (1200 * 2 ^ 48)) ≤ℤ n → neg_ℤ (pos (1400000000 * (a * 1))) ≤ℤ (n *ℤ pos 256000)
 litre_room n a least h = omega (arith, ints, least, h)
 
-litre_room_above : (n : ℤ) (a : ℕ) → 9 * 2 ^ 56 ≤ a * 10000 → n ≤ℤ pos (1200 * 2 ^ 48) → (n *ℤ pos 256000) ≤ℤ pos (2000000000 * (a * 1))
+litre_room_above : (n : ℤ) (a : ℕ) → 9 * 2 ^ 56 ≤ a * 10000 → n ≤ℤ pos (1200 * 2 ^ 48) → (n *ℤ pos 256000) ≤ℤ pos (1400000000 * (a * 1))
 litre_room_above n a least h = omega (arith, ints, least, h)
 
 litre_ranges : (a b : ℕ) (dlo dhi : ℤ) → a ≤ b → 9 * 2 ^ 56 ≤ a * 10000 → dlo ≤ℤ dhi → neg_ℤ (pos (1200 * 2 ^ 48)) ≤ℤ dlo → dhi ≤ℤ pos (1200 * 2 ^ 48)
-    → IsWithin 2000000000 (least_floor (dlo *ℤ pos 256000) (a * 1) (b * 1)) × IsWithin 2000000000 (greatest_ceil (dhi *ℤ pos 256000) (a * 1) (b * 1))
+    → IsWithin 1400000000 (least_floor (dlo *ℤ pos 256000) (a * 1) (b * 1)) × IsWithin 1400000000 (greatest_ceil (dhi *ℤ pos 256000) (a * 1) (b * 1))
 litre_ranges a b dlo dhi rising least order low high =
     let above : 0 < a * 1 = omega arith in
     let wider : a * 1 ≤ b * 1 = omega arith in
-    let first = least_floor-least 2000000000 (dlo *ℤ pos 256000) (a * 1) (b * 1) above wider (litre_room dlo a least low) in
-    let last = greatest_ceil-most 2000000000 (dhi *ℤ pos 256000) (a * 1) (b * 1) above wider (litre_room_above dhi a least high) in
+    let first = least_floor-least 1400000000 (dlo *ℤ pos 256000) (a * 1) (b * 1) above wider (litre_room dlo a least low) in
+    let last = greatest_ceil-most 1400000000 (dhi *ℤ pos 256000) (a * 1) (b * 1) above wider (litre_room_above dhi a least high) in
     let between = ends_ordered (dlo *ℤ pos 256000) (dhi *ℤ pos 256000) (a * 1) (b * 1) above (mul-le_pos 256000 order) in
     (record { low = first; high = ≤ℤ_trans between last }, record { low = ≤ℤ_trans first between; high = last })
 
 pub litre_within : (vlo vhi dlo dhi : ℤ) → vlo ≤ℤ vhi → pos (9 * 2 ^ 56) ≤ℤ (vlo *ℤ pos 10000) → dlo ≤ℤ dhi → neg_ℤ (pos (1200 * 2 ^ 48)) ≤ℤ dlo → dhi ≤ℤ pos (1200 * 2 ^ 48)
-    → IsWithin 2000000000 (least_floor (dlo *ℤ pos 256000) (unsigned_abs vlo * 1) (unsigned_abs vhi * 1)) × IsWithin 2000000000 (greatest_ceil (dhi *ℤ pos 256000) (unsigned_abs vlo * 1) (unsigned_abs vhi * 1))
+    → IsWithin 1400000000 (least_floor (dlo *ℤ pos 256000) (unsigned_abs vlo * 1) (unsigned_abs vhi * 1)) × IsWithin 1400000000 (greatest_ceil (dhi *ℤ pos 256000) (unsigned_abs vlo * 1) (unsigned_abs vhi * 1))
 litre_within (negsuc a) vhi dlo dhi rising least order low high = absurd (omega (arith, ints, least))
 litre_within (pos a) (negsuc b) dlo dhi rising least order low high = absurd (omega (arith, ints, rising))
 litre_within (pos a) (pos b) dlo dhi rising least order low high = litre_ranges a b dlo dhi (omega (arith, ints, rising)) (omega (arith, ints, least)) order low high

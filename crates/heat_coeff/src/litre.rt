@@ -1,4 +1,4 @@
-ghost use Rattle.std.specs.Prelude.{◌+◌, ◌-◌, ◌≤◌, pos, ◌-ℤ◌, ◌*ℤ◌, ◌≤ℤ◌};
+ghost use Rattle.std.specs.Prelude.{◌+◌, ◌-◌, ◌*◌, ◌≤◌, pos, ◌-ℤ◌, ◌*ℤ◌, ◌≤ℤ◌};
 ghost use Rattle.number_model.specs.Fraction.{Fraction};
 ghost use Rattle.number_model.specs.Enclosure.{SpanHolds};
 ghost use Rattle.number_model.specs.Rounding.{IsWithin};
@@ -23,8 +23,8 @@ pub struct Litre {
 
 /// The energy in millijoules that a litre gives off between flow and return, at each temperature of
 /// the spans `f` and `r`, which are at most 3,000 nanodegrees wide: 1000 (h(flow) - h(return)) / v,
-/// with v at the sensor where `place` is. Six times the distance of the ends is at most 600 and the
-/// widths of both spans.
+/// with v at the sensor where `place` is. The distance of the ends is at most a fifteenth of 241 and
+/// twice the widths of both spans, and they are at most 1.4 * 10^9 from 0.
 pub fn litre_energy(w: &Water, place: Place, f: Span, r: Span) -> Litre
     requires flow_narrow { f.hi - f.lo ≤ 3000 }
     requires return_narrow { r.hi - r.lo ≤ 3000 }
@@ -34,8 +34,10 @@ pub fn litre_energy(w: &Water, place: Place, f: Span, r: Span) -> Litre
     ensures ordered { result.lo_mj ≤ℤ result.hi_mj }
     ensures width { (pos 6 *ℤ (result.hi_mj -ℤ result.lo_mj)) ≤ℤ
         pos (600 + (f.hi - f.lo) + (r.hi - r.lo)) }
-    ensures least { IsWithin 2000000000 result.lo_mj }
-    ensures most { IsWithin 2000000000 result.hi_mj }
+    ensures closer { (pos 15 *ℤ (result.hi_mj -ℤ result.lo_mj)) ≤ℤ
+        pos (241 + 2 * ((f.hi - f.lo) + (r.hi - r.lo))) }
+    ensures least { IsWithin 1400000000 result.lo_mj }
+    ensures most { IsWithin 1400000000 result.hi_mj }
 {
     let given = heat_given(w, f, r);
     let volume = metered_volume(w, place, f, r);

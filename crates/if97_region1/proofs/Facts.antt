@@ -1,16 +1,15 @@
 -- What sizes say of ranges and widths.
-use Rattle.std.proofs.Common.{◌≡◌, ℕ, ◌+◌, ◌*◌, ◌^◌, ◌<◌, ◌≤◌, arith, lit<, lit≤, refl, ℤ, pos, negsuc, neg_ℤ, ◌+ℤ◌, ◌*ℤ◌, ◌≤ℤ◌}
+use Rattle.std.proofs.Common.{◌≡◌, ℕ, ◌+◌, ◌*◌, ◌^◌, ◌≤◌, arith, lit<, lit≤, refl, ℤ, pos, negsuc, neg_ℤ, ◌+ℤ◌, ◌*ℤ◌, ◌≤ℤ◌}
 use Rattle.std.proofs.lemmas.Int.{ints}
 use lib.IntN.{◌-ℤ◌}
 use native.Mathlib.Nat.{mul-le-mul_right}
-use Rattle.number_model.specs.Fraction.{Fraction, ◌*ℚ◌, whole}
-use Rattle.number_model.specs.Enclosure.{Holds, SpanHolds}
+use Rattle.number_model.specs.Fraction.{◌*ℚ◌, whole}
+use Rattle.number_model.specs.Enclosure.{Holds}
 use Rattle.number_model.specs.Rounding.{IsWithin, floor_div, ceil_div}
 use Rattle.number_model.proofs.Ints.{≤ℤ_trans, mul-le_pos, le_of_mul-le_pos, recast, as_diff, same_diff, diffs}
 use Rattle.number_model.proofs.Roundings.{floor_div-scale_down, ceil_div-scale_down}
 use Rattle.interval_num.specs.Ends.{ProductsWithin, quotient_floor, quotient_ceil}
 use Rattle.water_model.specs.Decimal.{decimal}
-use Rattle.water_model.specs.Water.{kelvin}
 use Rattle.enclosure_sizes.specs.Size.{Sized, SizedBy, parts}
 use Rattle.enclosure_sizes.proofs.Ranges.{products_within}
 use Rattle.enclosure_sizes.proofs.Sizes.{Sized-near}
@@ -31,13 +30,6 @@ sized_products k m a b n a' b' d l h l' h' order order' y z room =
 
 pub sized_sums : (m a b n a' b' d : ℕ) (l h l' h' : ℤ) → Sized m a b d l h → Sized n a' b' d l' h' → m + n ≤ 2 ^ 62 → (neg_ℤ (pos (2 ^ 62)) ≤ℤ (l +ℤ l')) × ((h +ℤ h') ≤ℤ pos (2 ^ 62))
 sized_sums m a b n a' b' d l h l' h' y z room = (omega (arith, ints, y.low, z.low, room), omega (arith, ints, y.high, z.high, room))
-
-pub kelvin_above : (lo hi : ℕ) (t : Fraction) → SpanHolds lo hi t → pos 1 ≤ℤ (kelvin t).num
-kelvin_above lo hi t s = above t.num t.den lo t.positive s.low.crossed
-  where
-    above : (z : ℤ) (d lo : ℕ) → 0 < d → (pos lo *ℤ pos d) ≤ℤ (z *ℤ pos 1000000000) → pos 1 ≤ℤ (z *ℤ pos 100 +ℤ pos 27315 *ℤ pos d)
-    above (pos n) d lo p h = omega (arith, ints, p)
-    above (negsuc n) d lo p h = absurd (omega (arith, ints, h))
 
 -- ---- the width in decimal units
 pub width_from : (a b d m n N s : ℕ) (l h : ℤ) → ((h -ℤ l) *ℤ pos parts) ≤ℤ pos (a + b * d) → a * N ≤ m * s * parts → b * N ≤ n * s * parts → ((h -ℤ l) *ℤ pos N) ≤ℤ pos ((m + n * d) * s)

@@ -28,7 +28,7 @@ pub volume_product : joined_size.most * volume_factor_size.most ≤ (2 ^ 62 - 1)
 unfolding joined_size total_size monomial_size slope single_down volume_up
 volume_product = lit≤ tt
 
-pub volume_base : volume_size.base * 10 ^ 15 ≤ 1000 * 2 ^ 56 * parts
+pub volume_base : volume_size.base * 10 ^ 15 ≤ 77 * 2 ^ 56 * parts
 unfolding volume_size joined_size total_size monomial_size slope single_down volume_up
 volume_base = lit≤ tt
 
@@ -44,10 +44,10 @@ pub heat_product : (down_size (2 ^ 8) (total_size tau_derivative_of heat)).most 
 unfolding total_size monomial_size slope heat
 heat_product = lit≤ tt
 
-pub heat_base : enthalpy_size.base * 10 ^ 9 ≤ 1000 * 2 ^ 48 * parts
+pub heat_base : enthalpy_size.base * 10 ^ 9 ≤ 37 * 2 ^ 48 * parts
 unfolding enthalpy_size total_size monomial_size slope heat
 heat_base = lit≤ tt
 
-pub heat_per : enthalpy_size.per * 10 ^ 9 ≤ 150 * 2 ^ 48 * parts
+pub heat_per : enthalpy_size.per * 10 ^ 9 ≤ 116 * 2 ^ 48 * parts
 unfolding enthalpy_size total_size monomial_size slope heat
 heat_per = lit≤ tt

@@ -38,7 +38,7 @@ impl Water {
     }
 
     /// The specific volume in m³/kg at each temperature of `s`, which is d <= 3,000 nanodegrees wide.
-    /// It lies between 0.0009 and 0.0014, and its width is at most (1,000 + 3 d) * 10^-15.
+    /// It lies between 0.0009 and 0.0014, and its width is at most (77 + 3 d) * 10^-15.
     pub fn volume(&self, s: Span) -> Enc<56>
         requires { s.hi - s.lo ≤ 3000 }
         ensures holds { (t : Fraction) →
@@ -47,12 +47,14 @@ impl Water {
         ensures most { (result.hi *ℤ pos 10000) ≤ℤ pos (14 * 2 ^ 56) }
         ensures width { ((result.hi -ℤ result.lo) *ℤ pos (10 ^ 15)) ≤ℤ
             pos ((1000 + 3 * (s.hi - s.lo)) * 2 ^ 56) }
+        ensures closer { ((result.hi -ℤ result.lo) *ℤ pos (10 ^ 15)) ≤ℤ
+            pos ((77 + 3 * (s.hi - s.lo)) * 2 ^ 56) }
     {
         volume_over(&Variables::over(self.p_kpa, s))
     }
 
     /// The specific enthalpy in kJ/kg at each temperature of `s`, which is d <= 3,000 nanodegrees wide.
-    /// It lies between -200 and 1,000, and its width is at most (1,000 + 150 d) * 10^-9.
+    /// It lies between -200 and 1,000, and its width is at most (37 + 116 d) * 10^-9.
     pub fn enthalpy(&self, s: Span) -> Enc<48>
         requires { s.hi - s.lo ≤ 3000 }
         ensures holds { (t : Fraction) →
@@ -61,6 +63,8 @@ impl Water {
         ensures most { result.hi ≤ℤ pos (1000 * 2 ^ 48) }
         ensures width { ((result.hi -ℤ result.lo) *ℤ pos (10 ^ 9)) ≤ℤ
             pos ((1000 + 150 * (s.hi - s.lo)) * 2 ^ 48) }
+        ensures closer { ((result.hi -ℤ result.lo) *ℤ pos (10 ^ 9)) ≤ℤ
+            pos ((37 + 116 * (s.hi - s.lo)) * 2 ^ 48) }
     {
         enthalpy_over(&Variables::over(self.p_kpa, s))
     }

@@ -1,5 +1,5 @@
 -- Why a line of a script is refused.
-use Rattle.std.specs.Prelude.{ℕ, ◌+◌, ◌==◌, cond, nat_lt, nat_le, List, length, Option, None, Some, Result, Ok, Err}
+use Rattle.std.specs.Prelude.{ℕ, ◌+◌, ◌==◌, Bool, true, cond, not, ◌&&◌, ◌||◌, nat_lt, nat_le, List, [], ◌∷◌, length, Option, None, Some, Result, Ok, Err}
 use Rattle.metering_model.specs.Events.{Event, Sample, Pulse, Date}
 use Rattle.metering_model.specs.Records.{MeterRecord}
 use Rattle.script_model.specs.Grammar.{Line, Metering, Opt, Mbus, line_of, max_pulses}
@@ -55,3 +55,13 @@ said_fault command r (Err place) = Some (Grammar place)
 -- why the line after n lines is refused, where r is the record in force
 abbrev pub fault_of : Command → MeterRecord → ℕ → List ℕ → Option Fault
 fault_of command r n line = cond (nat_le max_lines n) (Some TooMany) (cond (nat_lt max_line_len (length line)) (Some TooLong) (said_fault command r (line_of line)))
+
+-- no LF (10) is among these bytes
+abbrev pub has_no_end : List ℕ → Bool
+has_no_end [] = true
+has_no_end (c ∷ cs) = not (c == 10) && has_no_end cs
+
+-- These bytes behind n lines leave open what the next line says and why it is refused: they have no line's end, and more of
+-- them are needed to make it too long, or one line too many.
+abbrev pub is_open : ℕ → List ℕ → Bool
+is_open n front = has_no_end front && nat_le (length front) max_line_len && (nat_lt n max_lines || length front == 0)

@@ -1,3 +1,3 @@
-//! How the output lines of a run answer the lines of its script, and which events are kept by it.
-//! Definitions alone, in `specs/`, with a few laws in `proofs/`.
+//! When a line of a script is refused and for which fault, and the texts of output lines. Definitions alone, in
+//! `specs/`, with a few laws in `proofs/`.
 #![tactic(auto)]

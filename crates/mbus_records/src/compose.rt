@@ -1,9 +1,10 @@
 //! A telegram, composed.
-ghost use Rattle.std.specs.Prelude.{◌≡◌, ◌+◌, ◌-◌, ◌*◌, ◌/◌, ◌≤◌, ◌<◌, ◌++◌, ◌∷◌, [], if◌then◌else◌, length};
+ghost use Rattle.std.specs.Prelude.{◌≡◌, ◌+◌, ◌-◌, ◌*◌, ◌/◌, ◌≤◌, ◌++◌, ◌∷◌, [], if◌then◌else◌, length, IfSome};
 ghost use Rattle.std.specs.Option.{option_map};
 ghost use Rattle.std.specs.List.{list_all};
 ghost use Rattle.arrayvec.specs.ArrayVec.{array_vec_len};
 ghost use Rattle.telegram_model.specs.Telegram as model;
+ghost use Rattle.telegram_model.specs.Telegram.{body_length};
 ghost use Rattle.mbus_link.specs.Views.{frame_view};
 ghost use Rattle.billing_memory.specs.Records.{record_view};
 ghost use Rattle.billing_memory.specs.Entries.{set_day_view};
@@ -32,9 +33,10 @@ const MORE_FOLLOWS: u8 = 0x1F;
 /// Telegram `k` of a reading of the record `frozen`, with an access number. Telegram 0 says what the meter
 /// shows, its temperatures, its day and the entry of its set day. Each further one says up to eight month
 /// entries, from the newest on. None exactly where `k` is above the number of month entries divided by 8,
-/// rounded up.
+/// rounded up. A body has at most 165 bytes.
 pub fn telegram(c: &Config, frozen: &MeterRecord, k: u8, access: u8) -> Option<Frame>
-    ensures { option_map frame_view result ≡ model.telegram (config_view c.now) (record_view frozen.now) k access }
+    ensures frame { option_map frame_view result ≡ model.telegram (config_view c.now) (record_view frozen.now) k access }
+    ensures size { IfSome result (λ frame. body_length (frame_view frame) ≤ 165) }
 {
     if k > last_telegram(frozen) {
         return None;
@@ -117,7 +119,7 @@ fn push_first_records(body: &mut ArrayVec<u8, ROOM>, c: &Config, m: &MeterRecord
 {
     push_energy(body, c, 0, &m.register);
     push_volume(body, c, 0, &m.register);
-    push_samples(body, c.sensor, m.samples);
+    push_samples(body, c, m.samples);
     push_date(body, 0, m.day);
     push_set_day(body, c, &m.set_day);
 }
@@ -134,8 +136,9 @@ fn push_set_day(body: &mut ArrayVec<u8, ROOM>, c: &Config, set_day: &Option<Entr
 }
 
 fn push_mark(body: &mut ArrayVec<u8, ROOM>, more: bool)
-    requires { array_vec_len body.old < 252 }
-    ensures { body.new.items ≡ body.old.items ++ (if more then 31 ∷ [] else []) }
+    requires { array_vec_len body.old ≤ 164 }
+    ensures items { body.new.items ≡ body.old.items ++ (if more then 31 ∷ [] else []) }
+    ensures len { array_vec_len body.new ≤ array_vec_len body.old + 1 }
 {
     if more {
         body.push(MORE_FOLLOWS);

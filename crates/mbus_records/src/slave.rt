@@ -1,7 +1,8 @@
 //! The meter as a slave on the bus.
-ghost use Rattle.std.specs.Prelude.{◌≡◌, ◌++◌, ◌∷◌, [], List};
+ghost use Rattle.std.specs.Prelude.{◌≡◌, ◌++◌, ◌∷◌, ◌≤◌, [], List, IfSome};
 ghost use Rattle.std.specs.Option.{option_map};
 ghost use Rattle.config_model.specs.Configuration.{Configuration};
+ghost use Rattle.telegram_model.specs.Telegram.{body_length};
 ghost use Rattle.slave_model.specs.Heard.{Heard};
 ghost use Rattle.slave_model.specs.Replies.{reply_to};
 ghost use Rattle.mbus_link.specs.Views.{frame_view};
@@ -45,12 +46,13 @@ impl Slave {
     /// where its address is the meter's, FE or FF (hexadecimal). A reset, a short frame with the control field
     /// 40, is acknowledged unless it was sent to FF. A request, a short frame with the control field 5B or 7B
     /// and not sent to FF, gets a [`telegram`]. Each new telegram has the next access number, modulo 256, which
-    /// a reset doesn't change. There is no other reply.
+    /// a reset doesn't change. There is no other reply. The body of a reply has at most 165 bytes.
     pub fn hear(&mut self, f: &Frame, c: &Config, m: &MeterRecord) -> Option<Frame>
         ensures reply { (heard : List Heard) → IsAfter (config_view c.now) heard self.old
             → option_map frame_view result ≡ reply_to (config_view c.now) heard (heard_now f.now m.now) }
         ensures after { (heard : List Heard) → IsAfter (config_view c.now) heard self.old
             → IsAfter (config_view c.now) (heard ++ heard_now f.now m.now ∷ []) self.new }
+        ensures size { IfSome result (λ frame. body_length (frame_view frame) ≤ 165) }
     {
         match order_of(f, c) {
             Order::Reset => {
@@ -92,7 +94,8 @@ impl Slave {
 
     // The reply to the last request.
     fn last_reply(&self, c: &Config) -> Option<Frame>
-        ensures { option_map frame_view result ≡ last_reply_of (config_view c.now) self.now }
+        ensures frame { option_map frame_view result ≡ last_reply_of (config_view c.now) self.now }
+        ensures size { IfSome result (λ frame. body_length (frame_view frame) ≤ 165) }
     {
         match &self.reading {
             Some(reading) => telegram(

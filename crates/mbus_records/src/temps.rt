@@ -4,11 +4,13 @@ ghost use Rattle.std.specs.Option.{ForSome};
 ghost use Rattle.arrayvec.specs.ArrayVec.{array_vec_len};
 ghost use Rattle.platinum_model.specs.Element.{nominal};
 ghost use Rattle.telegram_model.specs.Telegram.{difference, one_temp, sample_records, temp_of, temp_records};
+ghost use Rattle.pt_curve.specs.Curve.{element};
 ghost use Rattle.meter_config.specs.Views.{sensor_ohm};
 
 use crate::push::{ROOM, push_temp};
 use arrayvec::ArrayVec;
-use pt_curve::{Curve, Sensor};
+use meter_config::Config;
+use pt_curve::Curve;
 
 // Value information fields (EN 13757-3): temperatures in thousandths of a degree.
 const FLOW_TEMP: u8 = 0x58;
@@ -18,26 +20,27 @@ const RETURN_TEMP: u8 = 0x5C;
 const DIFFERENCE: u8 = 0x60;
 
 /// Appends the temperatures of the samples in force, in microohms, where they are in range.
-pub(crate) fn push_samples(
-    body: &mut ArrayVec<u8, ROOM>,
-    sensor: Sensor,
-    samples: Option<(u32, u32)>,
-)
+pub(crate) fn push_samples(body: &mut ArrayVec<u8, ROOM>, c: &Config, samples: Option<(u32, u32)>)
     requires { array_vec_len body.old + 18 ≤ 252 }
-    ensures items { body.new.items ≡ body.old.items ++ sample_records (nominal (1000000 * sensor_ohm sensor)) samples }
+    ensures items { body.new.items ≡ body.old.items ++ sample_records (nominal (1000000 * sensor_ohm c.now.sensor)) samples }
     ensures len { array_vec_len body.new ≤ array_vec_len body.old + 18 }
 {
     if let Some((flow, ret)) = samples {
-        push_temps(body, whole_temp(sensor, flow), whole_temp(sensor, ret));
+        let pair = c.pair();
+        push_temps(
+            body,
+            whole_temp(&pair.flow, flow),
+            whole_temp(&pair.ret, ret),
+        );
     }
 }
 
 // The whole temperature of a sample in range, in microdegrees.
-fn whole_temp(sensor: Sensor, sample: u32) -> Option<u32>
-    ensures value { result ≡ temp_of (nominal (1000000 * sensor_ohm sensor)) sample }
+fn whole_temp(curve: &Curve, sample: u32) -> Option<u32>
+    ensures value { result ≡ temp_of (element curve.now) sample }
     ensures range { ForSome result (λ t. t ≤ 180000000) }
 {
-    Curve::nominal(sensor).whole_temp(sample)
+    curve.whole_temp(sample)
 }
 
 fn push_temps(body: &mut ArrayVec<u8, ROOM>, flow: Option<u32>, ret: Option<u32>)

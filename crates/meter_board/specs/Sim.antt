@@ -1,5 +1,5 @@
 -- What a contract sees of a board in memory.
-use Rattle.std.specs.Prelude.{◌≡◌, ℕ, ◌/◌, List, Any, length, take}
+use Rattle.std.specs.Prelude.{◌≡◌, ℕ, ◌+◌, ◌-◌, ◌/◌, ◌^◌, List, Any, length, take, min}
 use Rattle.trace_model.specs.Trace.{Entry, Store, Sync, Missed, Put, Arm, Cut, Trace, ◌▷◌}
 use Rattle.meter_board.specs.declared.sim_board.Call.{Call}
 use Rattle.meter_board.specs.declared.sim_board.CallKind.{CallKind}
@@ -38,6 +38,10 @@ sim_syncs b = b.syncs
 
 abbrev pub sim_puts : SimBoard → ℕ
 sim_puts b = b.puts
+
+-- how many there were on the memory, up to the end of the count's type
+abbrev pub sim_memory_calls : SimBoard → ℕ
+sim_memory_calls b = min (sim_loads b + sim_stores b + sim_syncs b) (2 ^ 64 - 1)
 
 -- the calls that fail
 abbrev pub sim_failing : SimBoard → List Call

@@ -1,7 +1,7 @@
 ghost use Rattle.std.specs.Prelude.{◌≡◌, ℕ, ◌+◌, ◌<◌, ◌≤◌, List, length, take, drop, OnOk};
 ghost use Rattle.trace_model.specs.Trace.{Trace, base_of};
 ghost use Rattle.trace_model.specs.Images.{IsImage};
-ghost use Rattle.meter_board.specs.Causes.{HasCause, HasCauses};
+ghost use Rattle.meter_board.specs.Causes.{HasCause, HasCauses, one_more};
 ghost use Rattle.meter_board.specs.Puts.{PutGives};
 ghost use Rattle.meter_board.specs.Stores.{StoreGives, SyncGives};
 
@@ -19,6 +19,9 @@ pub trait Board {
     /// The 16,384 bytes that the memory reads now.
     ghost reads: { Self → List ℕ };
 
+    /// How many calls on the memory were made, those that failed or were cut too, up to 2^64 - 1. Every board tells it.
+    ghost memory_calls: { Self → ℕ };
+
     /// How many calls on the memory have failed, up to 2^64 - 1.
     ghost memory_faults: { Self → ℕ };
 
@@ -34,6 +37,7 @@ pub trait Board {
     /// [`Failed`] where the memory failed: the count of memory faults rose, and `into` may hold anything.
     fn load(&mut self, at: u32, into: &mut [u8]) -> Result<(), Failed>
         requires { at + length into.old ≤ 16384 }
+        ensures memory_calls { memory_calls self.new ≡ one_more (memory_calls self.old) }
         ensures bytes { tells → OnOk result (into.new ≡ take (length into.old) (drop at (reads self.old))) }
         ensures trace { tells → trace self.new ≡ trace self.old }
         ensures reads { tells → reads self.new ≡ reads self.old }
@@ -48,6 +52,7 @@ pub trait Board {
     /// the count of memory faults rose. [`Refusal::Cut`] where the power failed, and the count of cuts rose.
     fn store(&mut self, at: u32, bytes: &[u8]) -> Result<(), Refusal>
         requires { at + length bytes.now ≤ 16384 }
+        ensures memory_calls { memory_calls self.new ≡ one_more (memory_calls self.old) }
         ensures gives { tells → StoreGives at bytes.now (trace self.old) (reads self.old) result (trace self.new) (reads self.new) }
         ensures causes { HasCauses (memory_faults self.old) (memory_faults self.new) (cuts self.old) (cuts self.new) result }
         ensures output_faults { output_faults self.old ≤ output_faults self.new };
@@ -58,6 +63,7 @@ pub trait Board {
     /// [`Refusal::Failed`] where the memory failed: nothing more is settled than before, and the count of memory
     /// faults rose. [`Refusal::Cut`] where the power failed, and the count of cuts rose.
     fn sync(&mut self) -> Result<(), Refusal>
+        ensures memory_calls { memory_calls self.new ≡ one_more (memory_calls self.old) }
         ensures gives { tells → SyncGives (trace self.old) (reads self.old) result (trace self.new) (reads self.new) }
         ensures causes { HasCauses (memory_faults self.old) (memory_faults self.new) (cuts self.old) (cuts self.new) result }
         ensures output_faults { output_faults self.old ≤ output_faults self.new };
@@ -68,6 +74,7 @@ pub trait Board {
     /// [`Failed`] where the output failed: a front of the bytes went out, or nothing, and the count of output faults rose.
     fn put(&mut self, bytes: &[u8]) -> Result<(), Failed>
         requires { 0 < length bytes.now }
+        ensures memory_calls { memory_calls self.new ≡ memory_calls self.old }
         ensures gives { tells → PutGives (trace self.old) bytes.now result (trace self.new) }
         ensures reads { tells → reads self.new ≡ reads self.old }
         ensures cause { HasCause (output_faults self.old) (output_faults self.new) result }

@@ -1,5 +1,6 @@
 //! A board over a file and standard output.
 ghost use Rattle.std.specs.Prelude.{◌≡◌};
+ghost use Rattle.meter_board.specs.Causes.{one_more};
 
 use crate::counts::raise;
 use crate::{Board, Failed, Refusal};
@@ -15,12 +16,14 @@ const MEMORY_LEN: u64 = 16_384;
 ///
 /// The first call on the memory opens the file, and makes one of zero bytes where there is none, whose bytes and
 /// whose name in its folder are settled at once. Where that fails it is taken away again. A file of another
-/// length, a folder, and a file that can't be opened are memory faults, and are left as they are.
+/// length, a folder, and a file that can't be opened are memory faults, and are left as they are. The file never
+/// takes the place of a standard stream that was closed; where there is no other descriptor, it is a memory fault.
 #[derive(Drop)]
 pub struct FileBoard<'a, R: Files + Print> {
     rt: &'a R,
     path: &'a str,
     file: Option<R::File>,
+    memory_calls: u64,
     memory_faults: u64,
     output_faults: u64,
 }
@@ -29,6 +32,7 @@ impl<'a, R: Files + Print> FileBoard<'a, R> {
     /// The board with its memory in the file at `path`, and the standard output of this runtime.
     pub fn at(rt: &'a R, path: &'a str) -> FileBoard<'a, R>
         ensures path { result.path.now ≡ path.now }
+        ensures memory_calls { result.memory_calls ≡ 0 }
         ensures memory_faults { result.memory_faults ≡ 0 }
         ensures output_faults { result.output_faults ≡ 0 }
     {
@@ -36,16 +40,19 @@ impl<'a, R: Files + Print> FileBoard<'a, R> {
             rt,
             path,
             file: None,
+            memory_calls: 0,
             memory_faults: 0,
             output_faults: 0,
         }
     }
 
-    // The open file, which is to be given back.
+    // The open file for a call on the memory, which is to be given back.
     fn take_file(&mut self) -> io::Result<R::File>
+        ensures memory_calls { self.new.memory_calls ≡ one_more self.old.memory_calls }
         ensures memory_faults { self.new.memory_faults ≡ self.old.memory_faults }
         ensures output_faults { self.new.output_faults ≡ self.old.output_faults }
     {
+        raise(&mut self.memory_calls);
         match self.file.take() {
             Some(file) => Ok(file),
             None => open_memory(self.rt, self.path),
@@ -53,6 +60,7 @@ impl<'a, R: Files + Print> FileBoard<'a, R> {
     }
 
     fn read_at(&mut self, at: u32, into: &mut [u8]) -> io::Result<()>
+        ensures memory_calls { self.new.memory_calls ≡ one_more self.old.memory_calls }
         ensures memory_faults { self.new.memory_faults ≡ self.old.memory_faults }
         ensures output_faults { self.new.output_faults ≡ self.old.output_faults }
     {
@@ -63,6 +71,7 @@ impl<'a, R: Files + Print> FileBoard<'a, R> {
     }
 
     fn write_at(&mut self, at: u32, bytes: &[u8]) -> io::Result<()>
+        ensures memory_calls { self.new.memory_calls ≡ one_more self.old.memory_calls }
         ensures memory_faults { self.new.memory_faults ≡ self.old.memory_faults }
         ensures output_faults { self.new.output_faults ≡ self.old.output_faults }
     {
@@ -73,6 +82,7 @@ impl<'a, R: Files + Print> FileBoard<'a, R> {
     }
 
     fn write_back(&mut self) -> io::Result<()>
+        ensures memory_calls { self.new.memory_calls ≡ one_more self.old.memory_calls }
         ensures memory_faults { self.new.memory_faults ≡ self.old.memory_faults }
         ensures output_faults { self.new.output_faults ≡ self.old.output_faults }
     {
@@ -92,7 +102,7 @@ fn open_memory<R: Files>(rt: &R, path: &str) -> io::Result<R::File> {
             if file.metadata()?.len() != MEMORY_LEN {
                 return Err(io::Error::from(ErrorKind::InvalidData));
             }
-            Ok(file)
+            above_streams(file)
         }
         Err(error) if error.kind() == ErrorKind::NotFound => {
             how.create_new(true);
@@ -104,9 +114,8 @@ fn open_memory<R: Files>(rt: &R, path: &str) -> io::Result<R::File> {
 
 // Makes the file of a memory, and takes it away again where it can't be made whole.
 fn make_memory<R: Files>(rt: &R, how: &OpenOptions, path: &str) -> io::Result<R::File> {
-    let file = how.open(rt, path)?;
-    match settle_new(rt, path, &file) {
-        Ok(()) => Ok(file),
+    match settle_new(rt, path, how.open(rt, path)?) {
+        Ok(file) => Ok(file),
         Err(error) => {
             // The first error is the one that counts.
             let _ = fs::remove_file(rt, path);
@@ -116,10 +125,18 @@ fn make_memory<R: Files>(rt: &R, how: &OpenOptions, path: &str) -> io::Result<R:
 }
 
 // Gives a new file its bytes, and settles them and its name in its folder.
-fn settle_new<R: Files>(rt: &R, path: &str, file: &R::File) -> io::Result<()> {
+fn settle_new<R: Files>(rt: &R, path: &str, file: R::File) -> io::Result<R::File> {
+    let file = above_streams(file)?;
     file.set_len(MEMORY_LEN)?;
     file.sync_all()?;
-    File::open(rt, folder_of(path))?.sync_all()
+    File::open(rt, folder_of(path))?.sync_all()?;
+    Ok(file)
+}
+
+// A file that is opened takes the descriptor of a stream that was closed, and each read or write of that stream would
+// then be one of the file. A clone gets a descriptor above those of the streams; the file's first one is closed here.
+fn above_streams<F: OpenFile + Drop>(file: F) -> io::Result<F> {
+    file.try_clone()
 }
 
 fn folder_of(path: &str) -> &str {
@@ -165,6 +182,8 @@ impl<R: Files + Print> Board for FileBoard<'_, R> {
     ghost trace = { λ _. Start [] };
 
     ghost reads = { λ _. [] };
+
+    ghost memory_calls = { λ b. b.memory_calls };
 
     ghost memory_faults = { λ b. b.memory_faults };
 

@@ -144,7 +144,7 @@ fn overwrite(memory: &mut Vec<u8>, at: usize, bytes: &[u8])
 }
 
 impl Board for SimBoard {
-    ghost use Rattle.meter_board.specs.Sim.{Adds, FailsAsTold, FailsLoad, FailsPut, FailsStore, FailsSync, RoomsAsBefore, half_of, sim_trace, sim_reads, sim_memory_faults, sim_output_faults, sim_cuts, sim_loads, sim_stores, sim_syncs, sim_puts};
+    ghost use Rattle.meter_board.specs.Sim.{Adds, FailsAsTold, FailsLoad, FailsPut, FailsStore, FailsSync, RoomsAsBefore, half_of, sim_trace, sim_reads, sim_memory_calls, sim_memory_faults, sim_output_faults, sim_cuts, sim_loads, sim_stores, sim_syncs, sim_puts};
     ghost use Rattle.meter_board.specs.SimLaws.{sim_whole};
 
     ghost tells = { Unit {0} };
@@ -152,6 +152,8 @@ impl Board for SimBoard {
     ghost trace = { λ b. sim_trace b };
 
     ghost reads = { λ b. b.memory.items };
+
+    ghost memory_calls = { λ b. sim_memory_calls b };
 
     ghost memory_faults = { λ b. b.memory_faults };
 
@@ -162,6 +164,7 @@ impl Board for SimBoard {
     /// Every load counts, one that fails too. It fails where it is one that fails.
     fn load(&mut self, at: u32, into: &mut [u8]) -> Result<(), Failed>
         requires { at + length into.old ≤ 16384 }
+        ensures memory_calls { sim_memory_calls self.new ≡ one_more (sim_memory_calls self.old) }
         ensures bytes { Unit {0} → OnOk result (into.new ≡ take (length into.old) (drop at (sim_reads self.old))) }
         ensures trace { Unit {0} → sim_trace self.new ≡ sim_trace self.old }
         ensures reads { Unit {0} → sim_reads self.new ≡ sim_reads self.old }
@@ -190,6 +193,7 @@ impl Board for SimBoard {
     /// and stores nothing then.
     fn store(&mut self, at: u32, bytes: &[u8]) -> Result<(), Refusal>
         requires { at + length bytes.now ≤ 16384 }
+        ensures memory_calls { sim_memory_calls self.new ≡ one_more (sim_memory_calls self.old) }
         ensures gives { Unit {0} → StoreGives at bytes.now (sim_trace self.old) (sim_reads self.old) result (sim_trace self.new) (sim_reads self.new) }
         ensures causes { HasCauses (sim_memory_faults self.old) (sim_memory_faults self.new) (sim_cuts self.old) (sim_cuts self.new) result }
         ensures ok { IsOk result ↔ Adds self.old (Store at bytes.now) (FailsStore self.old) }
@@ -220,6 +224,7 @@ impl Board for SimBoard {
     /// Every sync counts, one that fails too. It fails where there is no room, and where it is one that fails:
     /// then the trace tells that it was missed, where there is room for that.
     fn sync(&mut self) -> Result<(), Refusal>
+        ensures memory_calls { sim_memory_calls self.new ≡ one_more (sim_memory_calls self.old) }
         ensures gives { Unit {0} → SyncGives (sim_trace self.old) (sim_reads self.old) result (sim_trace self.new) (sim_reads self.new) }
         ensures causes { HasCauses (sim_memory_faults self.old) (sim_memory_faults self.new) (sim_cuts self.old) (sim_cuts self.new) result }
         ensures ok { IsOk result ↔ Adds self.old Sync (FailsSync self.old) }
@@ -249,6 +254,7 @@ impl Board for SimBoard {
     /// then the first half of the bytes, rounded down, goes out where there is room for it.
     fn put(&mut self, bytes: &[u8]) -> Result<(), Failed>
         requires { 0 < length bytes.now }
+        ensures memory_calls { sim_memory_calls self.new ≡ sim_memory_calls self.old }
         ensures gives { Unit {0} → PutGives (sim_trace self.old) bytes.now result (sim_trace self.new) }
         ensures reads { Unit {0} → sim_reads self.new ≡ sim_reads self.old }
         ensures cause { HasCause (sim_output_faults self.old) (sim_output_faults self.new) result }

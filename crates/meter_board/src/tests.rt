@@ -1,38 +1,10 @@
+mod edge;
+mod typed;
+mod watched;
+
 use crate::*;
-use std::alloc::Allocator;
-use std::io::{BufRead, Lines};
+use std::fs;
 use std::test::Fail;
-use std::{fs, io};
-
-/// A runtime whose standard input is this text.
-#[derive(Drop)]
-struct Typed(&'static [u8]);
-
-impl Input for Typed {
-    type Reader = &'static [u8];
-
-    fn read_line<A: Allocator + Clone>(&self, buf: &mut String<A>) -> io::Result<usize> {
-        self.reader().read_line(buf)
-    }
-
-    fn lines<A: Allocator>(&self, alloc: A) -> Lines<&'static [u8], A> {
-        self.reader().lines(alloc)
-    }
-
-    fn reader(&self) -> &'static [u8] {
-        self.0
-    }
-}
-
-#[test]
-fn standard_input_is_read(rt: HostRuntime) {
-    let typed = Typed(b"pulse 3\n");
-    let mut source = StdSource::new(&typed);
-    let mut into = [0; 16];
-    assert_eq!(rt; source.read(&mut into), Ok(8));
-    assert!(rt; into.starts_with(b"pulse 3\n"));
-    assert_eq!(rt; source.read(&mut into), Ok(0));
-}
 
 #[test]
 fn a_file_is_the_memory(rt: HostRuntime) -> Result<(), Fail> {

@@ -6,7 +6,7 @@ use Rattle.calendar_model.specs.Calendar.{day_number}
 use Rattle.metering_model.specs.Events.{Event, Sample, Pulse, Date, Kept, pulses_of}
 use Rattle.metering_model.specs.Counting.{counted_by}
 use Rattle.metering_model.specs.Records.{MeterRecord, Register, StandsFor, day_after}
-use Rattle.metering_model.specs.Integral.{AddsBy, AllFitWithMargin, FitsWithMargin, TakesEvent}
+use Rattle.metering_model.specs.Integral.{AddsBy, AllFitClosely, FitsClosely, TakesEvent}
 use Rattle.metering_model.proofs.Joined.{fit-more, register_after-joined, day_after-joined}
 use Rattle.generator_model.specs.Generated.{event_at, draw_at}
 use Rattle.load_gen.proofs.Steps.{first_day}
@@ -81,9 +81,9 @@ module _ (seed n : ℕ) (r : MeterRecord) (g : Going seed n r) where
     unfolding first_events
     events_next = map-append (λ (k : Kept). k.event) g.stands.kept (next ∷ []) ∙ ap (λ es. es ++ event_at seed (n + 1) ∷ []) g.stands.keeps.events ∙ rw (add-one n) refl
 
-    fits_next : AllFitWithMargin dry_settings dry_opening all
+    fits_next : AllFitClosely dry_settings dry_opening all
     fits_next = fit-more dry_settings dry_opening g.stands.kept next g.stands.keeps.fits
-        (subst (λ (s : MeterRecord). AddsBy (FitsWithMargin dry_settings) (counted_by dry_settings s.samples (event_at seed (n + 1))) t.energy_mj t.bound_mj) g.stands.stands.is t.fits)
+        (subst (λ (s : MeterRecord). AddsBy (FitsClosely dry_settings) (counted_by dry_settings s.samples (event_at seed (n + 1))) t.energy_mj t.bound_mj) g.stands.stands.is t.fits)
 
     pulses_few : pulses_of (event_at seed (n + 1)) ≤ 9
     unfolding event_at

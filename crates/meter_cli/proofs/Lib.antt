@@ -6,3 +6,5 @@ pub mod Keys
 pub mod Lines
 pub mod Shows
 pub mod Waters
+pub mod Certs
+pub mod Readings

@@ -33,7 +33,7 @@ pub grew_line : (Q : List ℕ → Type 0) (old t new : Trace) (text : List ℕ) 
 grew_line Q old t new text status (inl whole) leaves grew = subst (Grew (Leaves Q) old) (sym whole.1) (more grew (leaves_put Q t text leaves))
 grew_line Q old t new text status (inr front) leaves grew = grew_front Q old t new text front.1 leaves grew
 
-alone_front : (t new : Trace) (text : List ℕ) → PutsFront t text new → PutsAlone t → PutsAlone new
+pub alone_front : (t new : Trace) (text : List ℕ) → PutsFront t text new → PutsAlone t → PutsAlone new
 alone_front t new text (inl none) alone = subst PutsAlone (sym none) alone
 alone_front t new text (inr front) alone = subst PutsAlone (sym front.2) alone
 
@@ -65,7 +65,7 @@ pub lines_done : (lines : List ArrayString) (i : ℕ) (t : Trace) → length lin
 lines_done lines i t past = subst (λ ls. PutsLines ls t t Done) (sym (ap bytes_of (drop_of_length-le lines past))) (refl, refl)
 
 -- lines leave the base
-front_base : (old new : Trace) (text : List ℕ) → PutsFront old text new → base_of new ≡ base_of old
+pub front_base : (old new : Trace) (text : List ℕ) → PutsFront old text new → base_of new ≡ base_of old
 front_base old new text (inl none) = ap base_of none
 front_base old new text (inr piece) = ap base_of piece.2
 

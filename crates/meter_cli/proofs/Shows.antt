@@ -12,7 +12,7 @@ use Rattle.trace_model.specs.Output.{PutsAlone}
 use Rattle.meter_cli.specs.Show.{ShowLeaves, Shows, bytes_of}
 use Rattle.meter_cli.proofs.Lines.{alone_lines, lines_base}
 use Rattle.meter_cli.specs.declared.status.Status.{Status}
-use Rattle.meter_cli.specs.declared.status.Status.TheVariants.{Done, Usage, Config, Line, Memory, Read, Write, Unformatted, Foreign, Formatted, OutOfMemory, Cut}
+use Rattle.meter_cli.specs.declared.status.Status.TheVariants.{Done, Usage, Config, Line, Memory, Read, Write, Unformatted, Foreign, Formatted, OutOfMemory, Cut, NotRising, BadReadout}
 
 module _ (memory : List ℕ) (old new : Trace) where
   pub shows_alone : (status : Status) → ShowLeaves memory old new status → PutsAlone old → PutsAlone new
@@ -28,6 +28,8 @@ module _ (memory : List ℕ) (old new : Trace) where
   shows_alone Formatted l alone = absurd l
   shows_alone OutOfMemory l alone = absurd l
   shows_alone Cut l alone = absurd l
+  shows_alone (NotRising segment) l alone = absurd l
+  shows_alone (BadReadout at) l alone = absurd l
 
   pub shows_base : (status : Status) → ShowLeaves memory old new status → base_of new ≡ base_of old
   shows_base Done l = lines_base l.lines old new Done l.puts
@@ -42,6 +44,8 @@ module _ (memory : List ℕ) (old new : Trace) where
   shows_base Formatted l = absurd l
   shows_base OutOfMemory l = absurd l
   shows_base Cut l = absurd l
+  shows_base (NotRising segment) l = absurd l
+  shows_base (BadReadout at) l = absurd l
 
   pub shows_status : (status : Status) → (status ≡ Done) ⊎ (status ≡ Write) → Shows memory old new status → ShowLeaves memory old new status
   shows_status status (inl is) s = subst (ShowLeaves memory old new) (sym is) (subst (Shows memory old new) is s)

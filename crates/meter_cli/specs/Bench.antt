@@ -1,5 +1,5 @@
 -- The output of `bench`.
-use Rattle.std.specs.Prelude.{◌≡◌, ◌≢◌, ◌⊎◌, ℕ, ◌+◌, ◌-◌, ◌*◌, ◌≤◌, ℤ, pos, ◌+ℤ◌, ◌-ℤ◌, ◌≤ℤ◌, List, ◌++◌, codes}
+use Rattle.std.specs.Prelude.{◌≡◌, ◌≢◌, ◌⊎◌, ℕ, ◌+◌, ◌-◌, ◌*◌, ◌≤◌, ℤ, pos, ◌+ℤ◌, ◌-ℤ◌, ◌*ℤ◌, ◌≤ℤ◌, List, ◌++◌, codes}
 use Rattle.std.specs.Fmt.{signed_decimal}
 use Rattle.number_model.specs.Fraction.{Fraction}
 use Rattle.water_model.specs.Decimal.{integer}
@@ -36,10 +36,22 @@ IsOut e rf rr = (IsInRange e rf → ⊥) ⊎ (IsInRange e rr → ⊥)
 abbrev pub AtEachLitre : Element → Heat.Place → (p rf rr : ℕ) → (Fraction → Type 0) → Type 0
 AtEachLitre e place p rf rr P = (tf tr : Fraction) → IsInCell e rf tf → IsInCell e rr tr → P (litre_energy p place tf tr)
 
--- the ends hold that energy, are at most 1,200 mJ apart, and have different verdicts
+-- The ends of the energy of a litre are at most 1,200 mJ apart, and, in millijoules, at most a fifteenth of 241 and twice the
+-- widths of both cells in nanodegrees.
+pub record AreNear (e : Element) (rf rr : ℕ) (lo hi : ℤ) : Type 0 where
+  pub near : hi ≤ℤ (lo +ℤ pos 1200)
+  pub f_lo : ℕ
+  pub f_hi : ℕ
+  pub r_lo : ℕ
+  pub r_hi : ℕ
+  pub flow_cell : IsCellSpan e rf f_lo f_hi
+  pub return_cell : IsCellSpan e rr r_lo r_hi
+  pub closer : (pos 15 *ℤ (hi -ℤ lo)) ≤ℤ pos (241 + 2 * ((f_hi - f_lo) + (r_hi - r_lo)))
+
+-- the ends hold that energy, are near, and have different verdicts
 pub record AreLitreEnds (e : Element) (place : Heat.Place) (p rf rr : ℕ) (verdict : Fraction → model.Verdict) (lo hi : ℤ) : Type 0 where
   pub hold : AtEachLitre e place p rf rr (LiesBetween lo hi)
-  pub near : hi ≤ℤ (lo +ℤ pos 1200)
+  pub near : AreNear e rf rr lo hi
   pub differ : verdict (integer lo) ≢ verdict (integer hi)
 
 -- the pair of samples counts, and so many microdegrees are the difference of its whole temperatures

@@ -9,7 +9,7 @@ use Rattle.pt_curve.specs.declared.sensor.Sensor.TheVariants.{Pt100, Pt500, Pt10
 use Rattle.sensor_pair.specs.declared.place.Place.{Place}
 use Rattle.sensor_pair.specs.declared.place.Place.TheVariants.{Flow, Return}
 use Rattle.meter_cli.specs.declared.job.Job.{Job}
-use Rattle.meter_cli.specs.declared.job.Job.TheVariants.{Init, Run, Dry, Show, Temp, Water, Coef, BenchCalc, BenchPair, BenchFlow, Gen}
+use Rattle.meter_cli.specs.declared.job.Job.TheVariants.{Init, Run, Dry, Show, Temp, Water, Coef, BenchCalc, BenchPair, BenchFlow, Gen, Cert, ReadMbus}
 use Rattle.meter_cli.specs.declared.job.Usage.{Usage}
 
 -- the word is this text
@@ -74,10 +74,19 @@ bench_words (kind ∷ words) = cond (is_text (codes "calc") kind) (calc_words wo
 abbrev pub gen_words : List (List ℕ) → Result Job ℕ
 gen_words words = word_at 1 (number_in 0 18446744073709551615) words >>= λ seed. word_at 2 (number_in 1 1000000) seed.1 >>= λ count. end_at 3 (Gen seed.0 count.0) count.1
 
+-- `cert P`, from 1,100 to 4,000 kPa
+abbrev pub cert_words : List (List ℕ) → Result Job ℕ
+cert_words words = word_at 1 (number_in 1100 4000) words >>= λ p. end_at 2 (Cert p.0) p.1
+
+-- the words after `read`
+abbrev pub read_words : List (List ℕ) → Result Job ℕ
+read_words [] = Err 1
+read_words (kind ∷ words) = cond (is_text (codes "mbus") kind) (end_at 2 ReadMbus words) (Err 1)
+
 -- the command that words say, or the place of the first wrong, missing or extra word, from 0
 abbrev pub command_of : List (List ℕ) → Result Job ℕ
 command_of [] = Err 0
-command_of (name ∷ words) = cond (is_text (codes "init") name) (end_at 1 Init words) (cond (is_text (codes "run") name) (end_at 1 Run words) (cond (is_text (codes "dry") name) (end_at 1 Dry words) (cond (is_text (codes "show") name) (end_at 1 Show words) (cond (is_text (codes "temp") name) (temp_words words) (cond (is_text (codes "water") name) (water_words words) (cond (is_text (codes "k") name) (coef_words words) (cond (is_text (codes "bench") name) (bench_words words) (cond (is_text (codes "gen") name) (gen_words words) (Err 0)))))))))
+command_of (name ∷ words) = cond (is_text (codes "init") name) (end_at 1 Init words) (cond (is_text (codes "run") name) (end_at 1 Run words) (cond (is_text (codes "dry") name) (end_at 1 Dry words) (cond (is_text (codes "show") name) (end_at 1 Show words) (cond (is_text (codes "temp") name) (temp_words words) (cond (is_text (codes "water") name) (water_words words) (cond (is_text (codes "k") name) (coef_words words) (cond (is_text (codes "bench") name) (bench_words words) (cond (is_text (codes "gen") name) (gen_words words) (cond (is_text (codes "cert") name) (cert_words words) (cond (is_text (codes "read") name) (read_words words) (Err 0)))))))))))
 
 -- the texts of the words
 abbrev pub texts : List (Bor (List ℕ)) → List (List ℕ)
@@ -104,6 +113,8 @@ IsInRange (BenchCalc sensor place p dmin rf rr litres energy) = (1100 ≤ p) × 
 IsInRange (BenchPair sensor dmin tf tr rf rr) = (1 ≤ dmin) × (dmin ≤ 180000000) × (tr < tf) × (tf ≤ 180000000)
 IsInRange (BenchFlow class qp q reference indicated) = (1 ≤ class) × (class ≤ 3) × (1 ≤ qp) × (qp ≤ 1000000000) × (1 ≤ q) × (q ≤ 1000000000) × (1 ≤ reference) × (reference ≤ 1000000000000) × (indicated ≤ 1000000000000)
 IsInRange (Gen seed count) = count ≤ 1000000
+IsInRange (Cert p) = (1100 ≤ p) × (p ≤ 4000)
+IsInRange ReadMbus = Unit {0}
 
 -- a command that puts one line
 abbrev pub PutsOneLine : Job → Type 0
@@ -118,6 +129,8 @@ PutsOneLine (BenchCalc sensor place p dmin rf rr litres energy) = Unit {0}
 PutsOneLine (BenchPair sensor dmin tf tr rf rr) = Unit {0}
 PutsOneLine (BenchFlow class qp q reference indicated) = Unit {0}
 PutsOneLine (Gen seed count) = Unit {0}
+PutsOneLine (Cert p) = ⊥
+PutsOneLine ReadMbus = ⊥
 
 -- a command that reads nothing
 abbrev pub ReadsNothing : Job → Type 0
@@ -132,6 +145,24 @@ ReadsNothing (BenchCalc sensor place p dmin rf rr litres energy) = Unit {0}
 ReadsNothing (BenchPair sensor dmin tf tr rf rr) = Unit {0}
 ReadsNothing (BenchFlow class qp q reference indicated) = Unit {0}
 ReadsNothing (Gen seed count) = Unit {0}
+ReadsNothing (Cert p) = Unit {0}
+ReadsNothing ReadMbus = ⊥
+
+-- a command that makes no call on the memory
+abbrev pub UsesNoMemory : Job → Type 0
+UsesNoMemory Init = ⊥
+UsesNoMemory Run = ⊥
+UsesNoMemory Show = ⊥
+UsesNoMemory Dry = Unit {0}
+UsesNoMemory (Temp sensor r) = Unit {0}
+UsesNoMemory (Water p t) = Unit {0}
+UsesNoMemory (Coef place p tf tr) = Unit {0}
+UsesNoMemory (BenchCalc sensor place p dmin rf rr litres energy) = Unit {0}
+UsesNoMemory (BenchPair sensor dmin tf tr rf rr) = Unit {0}
+UsesNoMemory (BenchFlow class qp q reference indicated) = Unit {0}
+UsesNoMemory (Cert p) = Unit {0}
+UsesNoMemory (Gen seed count) = Unit {0}
+UsesNoMemory ReadMbus = Unit {0}
 
 -- the words begin with this one, where there is one
 abbrev pub BeginsWith : List (List ℕ) → Option (Bor (List ℕ) × Bor (List (Bor (List ℕ)))) → Type 0

@@ -6,9 +6,9 @@ use Rattle.run_engine.specs.declared.Ended.{Ended}
 use Rattle.run_engine.specs.Dry.{EndsWithoutMemory}
 use Rattle.meter_cli.specs.Status.{status_of}
 use Rattle.meter_cli.specs.declared.job.Job.{Job}
-use Rattle.meter_cli.specs.declared.job.Job.TheVariants.{Init, Run, Dry, Show, Temp, Water, Coef, BenchCalc, BenchPair, BenchFlow, Gen}
+use Rattle.meter_cli.specs.declared.job.Job.TheVariants.{Init, Run, Dry, Show, Temp, Water, Coef, BenchCalc, BenchPair, BenchFlow, Gen, Cert, ReadMbus}
 use Rattle.meter_cli.specs.declared.status.Status.{Status}
-use Rattle.meter_cli.specs.declared.status.Status.TheVariants.{Done, Config, Memory, Read, Write, Unformatted, Foreign, Formatted, OutOfMemory, Cut}
+use Rattle.meter_cli.specs.declared.status.Status.TheVariants.{Done, Config, Memory, Read, Write, Unformatted, Foreign, Formatted, OutOfMemory, Cut, NotRising, BadReadout}
 
 -- the text was refused or not read, and nothing was done
 abbrev pub EndsText : Status → Type 0
@@ -26,6 +26,18 @@ EndsShow status = (status ≡ Done) ⊎ (status ≡ Memory) ⊎ (status ≡ Writ
 abbrev pub EndsLine : Status → Type 0
 EndsLine status = (status ≡ Done) ⊎ (status ≡ Write)
 
+-- a certificate was put, or it stopped at a segment, or the output failed
+abbrev pub EndsCert : Status → Type 0
+EndsCert status = (status ≡ Done) ⊎ (status ≡ Write) ⊎ ((segment : ℕ) × (status ≡ NotRising segment))
+
+-- the bytes were not read, or are no such readout, and nothing was put
+abbrev pub EndsUnread : Status → Type 0
+EndsUnread status = (status ≡ Read) ⊎ ((at : ℕ) × (status ≡ BadReadout at))
+
+-- a readout was read, or not
+abbrev pub EndsRead : Status → Type 0
+EndsRead status = EndsUnread status ⊎ EndsLine status
+
 abbrev pub EndsBy : Job → Status → Type 0
 EndsBy Init status = EndsText status ⊎ EndsFormat status
 EndsBy Run status = (ended : Ended) × (status ≡ status_of ended)
@@ -38,3 +50,5 @@ EndsBy (BenchCalc sensor place p dmin rf rr litres energy) status = EndsLine sta
 EndsBy (BenchPair sensor dmin tf tr rf rr) status = EndsLine status
 EndsBy (BenchFlow class qp q reference indicated) status = EndsLine status
 EndsBy (Gen seed count) status = EndsLine status
+EndsBy (Cert p) status = EndsCert status
+EndsBy ReadMbus status = EndsRead status

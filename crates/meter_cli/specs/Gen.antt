@@ -3,7 +3,7 @@ use Rattle.std.specs.Prelude.{◌≡◌, ℕ, zero, suc, List, [], ◌∷◌, �
 use Rattle.std.specs.Fmt.{decimal}
 use Rattle.metering_model.specs.Events.{Event, Kept}
 use Rattle.metering_model.specs.Records.{MeterRecord, StandsFor, record_after}
-use Rattle.metering_model.specs.Integral.{AllFitWithMargin}
+use Rattle.metering_model.specs.Integral.{AllFitClosely}
 use Rattle.generator_model.specs.Generated.{event_at}
 use Rattle.journal_model.specs.Texts.{shown}
 use Rattle.run_engine.specs.Dry.{dry_opening, dry_settings}
@@ -16,11 +16,11 @@ unfoldable pub first_events : (seed n : ℕ) → List Event
 first_events seed zero = []
 first_events seed (suc n) = first_events seed n ++ event_at seed (suc n) ∷ []
 
--- each of the first n generated events was kept, in order, with an energy and a bound that fit it with margin
+-- each of the first n generated events was kept, in order, with an energy and a bound that fit it closely
 pub record KeepsEvents (seed n : ℕ) (kept : List Kept) : Type 0 where
   pub events : map (λ k. k.event) kept ≡ first_events seed n
   pub count : length kept ≡ n
-  pub fits : AllFitWithMargin dry_settings dry_opening kept
+  pub fits : AllFitClosely dry_settings dry_opening kept
 
 -- the record stands for such events
 pub record StandsForEvents (seed n : ℕ) (r : MeterRecord) : Type 0 where

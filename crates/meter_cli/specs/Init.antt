@@ -12,7 +12,7 @@ use Rattle.register_store.specs.Formatted.{HoldsInA}
 use Rattle.register_store.specs.Works.{Works}
 use Rattle.meter_cli.specs.Puts.{PutsLine}
 use Rattle.meter_cli.specs.declared.status.Status.{Status}
-use Rattle.meter_cli.specs.declared.status.Status.TheVariants.{Done, Usage, Config, Line, Memory, Read, Write, Unformatted, Foreign, Formatted, OutOfMemory, Cut}
+use Rattle.meter_cli.specs.declared.status.Status.TheVariants.{Done, Usage, Config, Line, Memory, Read, Write, Unformatted, Foreign, Formatted, OutOfMemory, Cut, NotRising, BadReadout}
 
 -- `init SERIAL`, in eight digits
 abbrev pub init_line : Configuration → List ℕ
@@ -40,6 +40,8 @@ InitAnswers said left (Foreign at) = ⊥
 InitAnswers said left Formatted = Accepts said left
 InitAnswers said left OutOfMemory = Unit {0}
 InitAnswers said left Cut = Accepts said left
+InitAnswers said left (NotRising segment) = ⊥
+InitAnswers said left (BadReadout at) = ⊥
 
 -- The memory, whose first byte was not the mark, was formatted by at most two stores and two syncs. Then its line was put.
 -- Each image that is possible now holds the configuration and its first record.
@@ -67,3 +69,5 @@ InitLeaves is_told memory old new (Foreign at) = ⊥
 InitLeaves is_told memory old new Formatted = (slice_index memory 0 ≡ mark) × (new ≡ old)
 InitLeaves is_told memory old new OutOfMemory = new ≡ old
 InitLeaves is_told memory old new Cut = (slice_index memory 0 ≢ mark) × Works 2 1 old new
+InitLeaves is_told memory old new (NotRising segment) = ⊥
+InitLeaves is_told memory old new (BadReadout at) = ⊥

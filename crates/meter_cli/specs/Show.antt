@@ -10,7 +10,7 @@ use Rattle.show_model.specs.Lines.{AreShowLines}
 use Rattle.arrayvec.specs.ArrayString.{ArrayString}
 use Rattle.meter_cli.specs.Puts.{PutsLines}
 use Rattle.meter_cli.specs.declared.status.Status.{Status}
-use Rattle.meter_cli.specs.declared.status.Status.TheVariants.{Done, Usage, Config, Line, Memory, Read, Write, Unformatted, Foreign, Formatted, OutOfMemory, Cut}
+use Rattle.meter_cli.specs.declared.status.Status.TheVariants.{Done, Usage, Config, Line, Memory, Read, Write, Unformatted, Foreign, Formatted, OutOfMemory, Cut, NotRising, BadReadout}
 
 -- the bytes of texts
 abbrev pub bytes_of : List ArrayString → List (List ℕ)
@@ -44,3 +44,5 @@ ShowLeaves memory old new (Foreign at) = (stored memory ≡ model.Foreign at) ×
 ShowLeaves memory old new Formatted = ⊥
 ShowLeaves memory old new OutOfMemory = ⊥
 ShowLeaves memory old new Cut = ⊥
+ShowLeaves memory old new (NotRising segment) = ⊥
+ShowLeaves memory old new (BadReadout at) = ⊥

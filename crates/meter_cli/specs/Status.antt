@@ -18,7 +18,7 @@ use Rattle.run_engine.specs.Ran.{Ran}
 use Rattle.run_engine.specs.Run.{RunLeaves}
 use Rattle.memory_model.specs.Stored.{Stored}
 use Rattle.meter_cli.specs.declared.status.Status.{Status}
-use Rattle.meter_cli.specs.declared.status.Status.TheVariants.{Done, Usage, Config, Line, Memory, Read, Write, Unformatted, Foreign, Formatted, OutOfMemory, Cut}
+use Rattle.meter_cli.specs.declared.status.Status.TheVariants.{Done, Usage, Config, Line, Memory, Read, Write, Unformatted, Foreign, Formatted, OutOfMemory, Cut, NotRising, BadReadout}
 
 abbrev pub status_of : Ended → Status
 status_of ended.Done = Done
@@ -28,7 +28,6 @@ status_of ended.Read = Read
 status_of ended.Write = Write
 status_of (ended.Unformatted byte) = Unformatted byte
 status_of (ended.Foreign at) = Foreign at
-status_of ended.OutOfMemory = OutOfMemory
 status_of ended.Cut = Cut
 
 -- the status of a text that gives no configuration
@@ -74,6 +73,8 @@ code_of (Foreign at) = 9
 code_of Formatted = 10
 code_of OutOfMemory = 11
 code_of Cut = 12
+code_of (BadReadout at) = 14
+code_of (NotRising segment) = 16
 
 -- what a status line says of a fault, the day in force as `YYYY-MM-DD`
 abbrev pub IsFaultText : LineFault → List ℕ → Type 0
@@ -112,3 +113,5 @@ IsStatusText (Foreign at) text = text ≡ codes "foreign at " ++ decimal at
 IsStatusText Formatted text = text ≡ codes "already formatted"
 IsStatusText OutOfMemory text = text ≡ codes "out of memory"
 IsStatusText Cut text = text ≡ codes "power cut"
+IsStatusText (NotRising segment) text = text ≡ codes "not rising at " ++ decimal segment
+IsStatusText (BadReadout at) text = text ≡ codes "bad readout at " ++ decimal at

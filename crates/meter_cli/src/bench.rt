@@ -65,6 +65,7 @@ pub fn calc<B: Board>(board: &mut B, test: CalculatorTest) -> Status
     requires most_litres { test.litres ≤ 10 ^ 9 }
     requires most_energy { test.energy_mj ≤ 10 ^ 18 }
     ensures leaves { B.tells → CalcLeaves test.sensor test.place test.p_kpa test.dmin_udeg test.rf test.rr test.litres test.energy_mj (B.trace board.old) (B.trace board.new) result }
+    ensures memory_untouched { B.memory_calls board.new ≡ B.memory_calls board.old }
     ensures write { result ≡ Status.Write → Rose (B.output_faults board.old) (B.output_faults board.new) }
     ensures kind { (result ≡ Status.Done) ⊎ (result ≡ Status.Write) }
 {
@@ -133,6 +134,7 @@ pub fn pair<B: Board>(board: &mut B, test: PairTest) -> Status
     requires warmer { test.tr_udeg < test.tf_udeg }
     requires range { test.tf_udeg ≤ 180000000 }
     ensures leaves { B.tells → PairLeaves test.sensor test.dmin_udeg test.tf_udeg test.tr_udeg test.rf test.rr (B.trace board.old) (B.trace board.new) result }
+    ensures memory_untouched { B.memory_calls board.new ≡ B.memory_calls board.old }
     ensures write { result ≡ Status.Write → Rose (B.output_faults board.old) (B.output_faults board.new) }
     ensures kind { (result ≡ Status.Done) ⊎ (result ≡ Status.Write) }
 {
@@ -178,6 +180,7 @@ pub fn flow<B: Board>(
     requires most_reference { reference ≤ 10 ^ 12 }
     requires most_indicated { indicated ≤ 10 ^ 12 }
     ensures puts { B.tells → PutsLine (flow_text class qp q reference indicated) (B.trace board.old) (B.trace board.new) result }
+    ensures memory_untouched { B.memory_calls board.new ≡ B.memory_calls board.old }
     ensures write { result ≡ Status.Write → Rose (B.output_faults board.old) (B.output_faults board.new) }
     ensures kind { (result ≡ Status.Done) ⊎ (result ≡ Status.Write) }
 {

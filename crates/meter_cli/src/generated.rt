@@ -29,6 +29,7 @@ use meter_core::Meter;
 pub fn generate<B: Board>(board: &mut B, seed: u64, count: u32) -> Status
     requires { count ≤ 1000000 }
     ensures leaves { B.tells → GenLeaves seed count (B.trace board.old) (B.trace board.new) result }
+    ensures memory_untouched { B.memory_calls board.new ≡ B.memory_calls board.old }
     ensures write { result ≡ Status.Write → Rose (B.output_faults board.old) (B.output_faults board.new) }
     ensures kind { (result ≡ Status.Done) ⊎ (result ≡ Status.Write) }
 {

@@ -71,7 +71,7 @@ fn told_config<S: Source>(alloc: Global, source: &mut S) -> Result<Config, Statu
 }
 
 /// Reads into `into` until it is full or the source ends, and answers how many bytes were read.
-fn fill<S: Source>(source: &mut S, into: &mut [u8]) -> Result<usize, Failed>
+pub fn fill<S: Source>(source: &mut S, into: &mut [u8]) -> Result<usize, Failed>
     ensures size { length into.new ≡ length into.old }
     ensures fits { IfOk result (λ n. n ≤ length into.new) }
     ensures bytes { IfOk result (λ n. S.tells → S.left source.old ≡ take n into.new ++ S.left source.new) }

@@ -2,7 +2,7 @@
 ghost use Rattle.std.specs.Prelude.{◌≡◌, ◌+◌, ◌≤◌, ◌<◌, IfOk, IfSome};
 ghost use Rattle.script_model.specs.Grammar.{end_at, word_at};
 ghost use Rattle.script_model.specs.Numbers.{number_in};
-ghost use Rattle.meter_cli.specs.Command.{BeginsWith, IsInRange, Says, SaysWord, bench_words, calc_words, coef_words, colder_in, command_of, flow_words, gen_words, pair_words, place_of, return_in, sensor_of, temp_words, texts, water_words};
+ghost use Rattle.meter_cli.specs.Command.{BeginsWith, IsInRange, Says, SaysWord, bench_words, calc_words, cert_words, coef_words, colder_in, command_of, flow_words, gen_words, pair_words, place_of, read_words, return_in, sensor_of, temp_words, texts, water_words};
 
 use event_script::number_word;
 use pt_curve::Sensor;
@@ -78,6 +78,13 @@ pub enum Job {
         seed: u64,
         count: u32,
     },
+    /// `cert P`: a range of the slope of the enthalpy of water for each degree from 0 to 180 °C, at `p_kpa` kPa, 1,100
+    /// to 4,000.
+    Cert {
+        p_kpa: u32,
+    },
+    /// `read mbus`: put what the telegram that the source tells says.
+    ReadMbus,
 }
 
 /// The words are no command, with the place of the first wrong, missing or extra word, counted from 0.
@@ -149,6 +156,10 @@ pub fn command(words: &[&str]) -> Result<Job, Usage>
         bench(rest)
     } else if name.as_bytes() == b"gen".as_slice() {
         generate(rest)
+    } else if name.as_bytes() == b"cert".as_slice() {
+        cert(rest)
+    } else if name.as_bytes() == b"read".as_slice() {
+        read(rest)
     } else {
         Err(Usage { word: 0 })
     }
@@ -258,6 +269,33 @@ fn coef(words: &[&str]) -> Result<Job, Usage>
     }
 }
 
+// The words after `read`.
+fn read(words: &[&str]) -> Result<Job, Usage>
+    ensures says { Says result (read_words (texts words.now)) }
+    ensures range { IfOk result IsInRange }
+{
+    let Some((kind, rest)) = first_of(words) else {
+        return Err(Usage { word: 1 });
+    };
+    if kind.as_bytes() == b"mbus".as_slice() {
+        last(rest, Job::ReadMbus)
+    } else {
+        Err(Usage { word: 1 })
+    }
+}
+
+// The words after the two of a command that has no more.
+fn last(words: &[&str], job: Job) -> Result<Job, Usage>
+    requires { IsInRange job }
+    ensures says { Says result (end_at 2 job (texts words.now)) }
+    ensures range { IfOk result IsInRange }
+{
+    match first_of(words) {
+        None => Ok(job),
+        Some(_) => Err(Usage { word: 2 }),
+    }
+}
+
 // The words after `bench`.
 fn bench(words: &[&str]) -> Result<Job, Usage>
     ensures says { Says result (bench_words (texts words.now)) }
@@ -363,6 +401,20 @@ fn generate(words: &[&str]) -> Result<Job, Usage>
         None => Ok(Job::Gen {
             seed,
             count: count as u32,
+        }),
+    }
+}
+
+// The words after `cert`.
+fn cert(words: &[&str]) -> Result<Job, Usage>
+    ensures says { Says result (cert_words (texts words.now)) }
+    ensures range { IfOk result IsInRange }
+{
+    let (pressure, words) = number_at(words, 1, MIN_PRESSURE, MAX_PRESSURE)?;
+    match first_of(words) {
+        Some(_) => Err(Usage { word: 2 }),
+        None => Ok(Job::Cert {
+            p_kpa: pressure as u32,
         }),
     }
 }

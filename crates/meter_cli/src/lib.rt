@@ -2,17 +2,28 @@
 #![tactic(auto)]
 
 mod bench;
+mod cert;
+#[cfg(test)]
+mod cert_tests;
 mod generated;
 mod init;
 mod job;
 mod physics;
+#[cfg(test)]
+mod pieces_tests;
 mod puts;
+#[cfg(test)]
+mod read_tests;
+mod readout;
+mod readout_lines;
 #[cfg(test)]
 mod readout_tests;
 #[cfg(test)]
 mod run_tests;
 mod show;
 mod show_lines;
+#[cfg(test)]
+mod silence_tests;
 mod status;
 #[cfg(test)]
 mod tests;

@@ -36,6 +36,7 @@ const ENTHALPY_UNITS: i128 = 1_000_000_000;
 /// Puts the whole temperature of a sample in microdegrees Celsius, or `out` where it is out of range.
 pub fn temp<B: Board>(board: &mut B, sensor: Sensor, r: u32) -> Status
     ensures leaves { B.tells → TempLeaves sensor r (B.trace board.old) (B.trace board.new) result }
+    ensures memory_untouched { B.memory_calls board.new ≡ B.memory_calls board.old }
     ensures write { result ≡ Status.Write → Rose (B.output_faults board.old) (B.output_faults board.new) }
     ensures kind { (result ≡ Status.Done) ⊎ (result ≡ Status.Write) }
 {
@@ -66,6 +67,7 @@ pub fn water<B: Board>(board: &mut B, p_kpa: u32, t_udeg: u32) -> Status
     requires high { p_kpa ≤ 4000 }
     requires temperature { t_udeg ≤ 180000000 }
     ensures leaves { B.tells → WaterLeaves p_kpa t_udeg (B.trace board.old) (B.trace board.new) result }
+    ensures memory_untouched { B.memory_calls board.new ≡ B.memory_calls board.old }
     ensures write { result ≡ Status.Write → Rose (B.output_faults board.old) (B.output_faults board.new) }
     ensures kind { (result ≡ Status.Done) ⊎ (result ≡ Status.Write) }
 {
@@ -147,6 +149,7 @@ pub fn coef<B: Board>(board: &mut B, place: Place, p_kpa: u32, tf_udeg: u32, tr_
     requires apart { tr_udeg + 10000 ≤ tf_udeg }
     requires temperature { tf_udeg ≤ 180000000 }
     ensures leaves { B.tells → CoefLeaves place p_kpa tf_udeg tr_udeg (B.trace board.old) (B.trace board.new) result }
+    ensures memory_untouched { B.memory_calls board.new ≡ B.memory_calls board.old }
     ensures write { result ≡ Status.Write → Rose (B.output_faults board.old) (B.output_faults board.new) }
     ensures kind { (result ≡ Status.Done) ⊎ (result ≡ Status.Write) }
 {

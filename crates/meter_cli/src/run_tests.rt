@@ -260,15 +260,29 @@ fn calls_that_fail_end_a_run(rt: HostRuntime) -> Result<(), Fail> {
 }
 
 #[test]
-fn a_source_that_fails_leaves_the_memory(rt: HostRuntime) -> Result<(), Fail> {
+fn a_source_that_fails_within_a_line_leaves_the_memory(rt: HostRuntime) -> Result<(), Fail> {
     let before = formatted(&rt)?;
     let mut board = board_over(&rt, before.image())?;
+    let mut source = SliceSource::new(b"pulse 3\n", 4);
+    assert!(&rt; source.fail_on(2));
+    assert_eq!(&rt;
+        meter(rt.alloc(), &RUN, &mut source, &mut board),
+        Status::Read
+    );
+    assert!(&rt; board.image() == before.image());
+    Ok(())
+}
+
+#[test]
+fn a_line_that_was_delivered_is_held_where_the_source_fails(rt: HostRuntime) -> Result<(), Fail> {
+    let mut board = formatted(&rt)?;
     let mut source = SliceSource::new(b"pulse 3\n", 4);
     assert!(&rt; source.fail_on(3));
     assert_eq!(&rt;
         meter(rt.alloc(), &RUN, &mut source, &mut board),
         Status::Read
     );
-    assert!(&rt; board.image() == before.image());
+    assert!(&rt; board.output().eq("ok 1 30 0 0\n".bytes()));
+    assert_eq!(&rt; events_in(&rt, board.image())?, 1);
     Ok(())
 }

@@ -72,8 +72,8 @@ fn push_months(
     }
 }
 
-// A text between two others, of which the second ends the line.
-fn labelled(name: &str, text: &str, end: &str) -> ArrayString<LINE_ROOM>
+/// A text between two others, of which the second ends the line.
+pub fn labelled(name: &str, text: &str, end: &str) -> ArrayString<LINE_ROOM>
     requires name { length name.now ≤ 10 }
     requires text { length text.now ≤ 40 }
     requires end { length end.now ≤ 10 }

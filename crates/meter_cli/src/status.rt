@@ -43,6 +43,11 @@ pub enum Status {
     OutOfMemory,
     /// The power was cut while the memory was written.
     Cut,
+    /// The enthalpy of water may fall between two temperatures from `segment` to `segment + 1` °C.
+    NotRising { segment: u8 },
+    /// The bytes are no such readout: the place of the first of them that breaks a rule, or their number where too
+    /// few are there.
+    BadReadout { at: u32 },
 }
 
 /// The exit status of the program.
@@ -62,6 +67,8 @@ pub fn status_code(s: &Status) -> u8
         Status::Formatted => 10,
         Status::OutOfMemory => 11,
         Status::Cut => 12,
+        Status::BadReadout { .. } => 14,
+        Status::NotRising { .. } => 16,
     }
 }
 
@@ -82,6 +89,8 @@ pub fn status_line(s: &Status) -> ArrayString<STATUS_ROOM>
         Status::Formatted => fixed("already formatted"),
         Status::OutOfMemory => fixed("out of memory"),
         Status::Cut => fixed("power cut"),
+        Status::NotRising { segment } => numbered("not rising at ", u64::from(*segment)),
+        Status::BadReadout { at } => numbered("bad readout at ", u64::from(*at)),
     }
 }
 

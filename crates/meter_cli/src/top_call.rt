@@ -7,43 +7,50 @@ ghost use Rattle.accept_model.specs.Accepted.{accepted};
 ghost use Rattle.memory_model.specs.Stored.{Foreign, Holds, Side, Unformatted, mark, stored};
 ghost use Rattle.trace_model.specs.Trace.{IsFresh, Trace, base_of};
 ghost use Rattle.trace_model.specs.Moments.{IsPrefix, Leaves};
-ghost use Rattle.trace_model.specs.Output.{PutsAlone};
+ghost use Rattle.trace_model.specs.Output.{PutsAlone, output_lines};
 ghost use Rattle.pairing_model.specs.Setup.{on_memory};
 ghost use Rattle.pairing_model.specs.Pairing.{NoneRefused};
 ghost use Rattle.meter_board.specs.Causes.{Rose};
 ghost use Rattle.meter_config.specs.Faults.{Refuses};
 ghost use Rattle.meter_config.specs.declared.fault.ConfigFault.{ConfigFault};
 ghost use Rattle.register_store.specs.Formatted.{UnformattedOr};
+ghost use Rattle.reading_model.specs.Telegrams.{telegram_in};
 ghost use Rattle.run_engine.specs.Dry.{dry_opening, dry_setup};
+ghost use Rattle.run_engine.specs.Ran.{StopsAtRead};
 ghost use Rattle.meter_cli.specs.Bench.{CalcLeaves, PairLeaves, flow_text};
+ghost use Rattle.meter_cli.specs.Cert.{CertLeaves};
 ghost use Rattle.meter_cli.specs.Coef.{CoefLeaves};
-ghost use Rattle.meter_cli.specs.Command.{PutsOneLine, ReadsNothing, command_of, texts};
-ghost use Rattle.meter_cli.specs.Ends.{EndsBy, EndsText};
+ghost use Rattle.meter_cli.specs.Command.{PutsOneLine, ReadsNothing, UsesNoMemory, command_of, texts};
+ghost use Rattle.meter_cli.specs.Ends.{EndsBy, EndsText, EndsUnread};
 ghost use Rattle.meter_cli.specs.Gen.{GenLeaves};
 ghost use Rattle.meter_cli.specs.Init.{InitAnswers, InitLeaves, first_record};
 ghost use Rattle.meter_cli.specs.Puts.{PutsLine};
+ghost use Rattle.meter_cli.specs.Read.{ReadAnswers, ReadLeaves, read_status};
+ghost use Rattle.meter_cli.specs.ReadLines.{AreTelegramLines};
 ghost use Rattle.meter_cli.specs.Show.{ShowLeaves};
 ghost use Rattle.meter_cli.specs.Status.{DryLeaves, RunEnds, status_of};
 ghost use Rattle.meter_cli.specs.Temp.{TempLeaves};
 ghost use Rattle.meter_cli.specs.Water.{WaterLeaves};
 ghost use Rattle.meter_cli.specs.declared.job.Job.{Job};
 ghost use Rattle.pt_curve.specs.declared.sensor.Sensor.{Sensor};
+ghost use Rattle.slope_model.specs.Slope.{EnthalpyRises};
 ghost use Rattle.sensor_pair.specs.declared.place.Place.{Place};
 
-use crate::bench;
 use crate::bench::{CalculatorTest, PairTest};
+use crate::cert::cert;
 use crate::generated::generate;
 use crate::init::init;
 use crate::job::{Job, command};
 use crate::physics::{coef, temp, water};
 use crate::show::show;
 use crate::status::Status;
+use crate::{bench, readout};
 use meter_board::{Board, Source};
 use run_engine::{Ended, dry, run};
 use std::alloc::Global;
 
 /// Does what the words after the program's name say, on this source and this board, and answers how it
-/// ended. Each status has its cause in a clause; memory may run out at any time.
+/// ended. Each status has its cause in a clause; `init` alone takes memory, which may run out.
 pub fn meter<S: Source, B: Board>(
     alloc: Global,
     words: &[&str],
@@ -58,13 +65,15 @@ pub fn meter<S: Source, B: Board>(
 
     // What `run` leaves, by what the memory stood for at its start, and when it must answer Done.
     ensures run { command_of (texts words.now) ≡ Ok Job.Run → S.tells → B.tells → RunEnds (stored (base_of (B.trace board.old))) (S.left source.old) (B.trace board.new) result }
-    ensures run_complete { (c : Configuration) (o : MeterRecord) (side : Side) → command_of (texts words.now) ≡ Ok Job.Run → S.tells → B.tells → stored (base_of (B.trace board.old)) ≡ Holds c o side → NoneRefused (on_memory c) o (lines_of (S.left source.old)) → ¬ Rose (S.faults source.old) (S.faults source.new) → ¬ Rose (B.memory_faults board.old) (B.memory_faults board.new) → ¬ Rose (B.output_faults board.old) (B.output_faults board.new) → ¬ Rose (B.cuts board.old) (B.cuts board.new) → (result ≡ Status.Done) ⊎ (result ≡ Status.OutOfMemory) }
+    ensures run_complete { (c : Configuration) (o : MeterRecord) (side : Side) → command_of (texts words.now) ≡ Ok Job.Run → S.tells → B.tells → stored (base_of (B.trace board.old)) ≡ Holds c o side → NoneRefused (on_memory c) o (lines_of (S.left source.old)) → ¬ Rose (S.faults source.old) (S.faults source.new) → ¬ Rose (B.memory_faults board.old) (B.memory_faults board.new) → ¬ Rose (B.output_faults board.old) (B.output_faults board.new) → ¬ Rose (B.cuts board.old) (B.cuts board.new) → result ≡ Status.Done }
     ensures run_end { command_of (texts words.now) ≡ Ok Job.Run → S.tells → B.tells → result ≡ Status.Done → S.left source.new ≡ [] }
+    ensures run_delivered { command_of (texts words.now) ≡ Ok Job.Run → S.tells → B.tells → result ≡ Status.Read → StopsAtRead (S.left source.old) (S.left source.new) (length (output_lines (B.trace board.new))) }
 
     // What `dry` leaves, and when it must answer Done.
     ensures dry { command_of (texts words.now) ≡ Ok Job.Dry → S.tells → B.tells → DryLeaves (S.left source.old) (B.trace board.new) result }
-    ensures complete { command_of (texts words.now) ≡ Ok Job.Dry → S.tells → B.tells → NoneRefused dry_setup dry_opening (lines_of (S.left source.old)) → ¬ Rose (S.faults source.old) (S.faults source.new) → ¬ Rose (B.output_faults board.old) (B.output_faults board.new) → (result ≡ Status.Done) ⊎ (result ≡ Status.OutOfMemory) }
+    ensures complete { command_of (texts words.now) ≡ Ok Job.Dry → S.tells → B.tells → NoneRefused dry_setup dry_opening (lines_of (S.left source.old)) → ¬ Rose (S.faults source.old) (S.faults source.new) → ¬ Rose (B.output_faults board.old) (B.output_faults board.new) → result ≡ Status.Done }
     ensures end { command_of (texts words.now) ≡ Ok Job.Dry → S.tells → B.tells → result ≡ Status.Done → S.left source.new ≡ [] }
+    ensures delivered { command_of (texts words.now) ≡ Ok Job.Dry → S.tells → B.tells → result ≡ Status.Read → StopsAtRead (S.left source.old) (S.left source.new) (length (output_lines (B.trace board.new))) }
 
     // What `init` answers to its text and leaves. A text that is refused, or was not read, touches no board.
     ensures init_answers { command_of (texts words.now) ≡ Ok Job.Init → S.tells → InitAnswers (accepted (S.left source.old)) (S.left source.new) result }
@@ -98,8 +107,29 @@ pub fn meter<S: Source, B: Board>(
     ensures generated { (seed count : ℕ) → command_of (texts words.now) ≡ Ok (Job.Gen seed count) → B.tells → GenLeaves seed count (B.trace board.old) (B.trace board.new) result }
     ensures one_line { (job : Job) → command_of (texts words.now) ≡ Ok job → PutsOneLine job → (result ≡ Status.Done) ⊎ Rose (B.output_faults board.old) (B.output_faults board.new) }
 
-    // They and `show` read nothing.
+    // What `cert` leaves. Its last line is `yes` only where the enthalpy rises everywhere, and it stops elsewhere only
+    // where the output fails.
+    ensures cert { (p : ℕ) → command_of (texts words.now) ≡ Ok (Job.Cert p) → B.tells → CertLeaves p (B.trace board.old) (B.trace board.new) result }
+    ensures cert_rises { (p : ℕ) → command_of (texts words.now) ≡ Ok (Job.Cert p) → result ≡ Status.Done → EnthalpyRises p }
+    ensures cert_complete { (p : ℕ) → command_of (texts words.now) ≡ Ok (Job.Cert p) → (result ≡ Status.Done) ⊎ ((segment : ℕ) × (result ≡ Status.NotRising segment)) ⊎ Rose (B.output_faults board.old) (B.output_faults board.new) }
+
+    // What `read mbus` leaves. Where nothing fails it is done, with the lines of exactly what the bytes say, or names
+    // the place at which they break a rule, and then nothing was put. 262 bytes decide.
+    ensures read_mbus { command_of (texts words.now) ≡ Ok Job.ReadMbus → S.tells → B.tells → ReadLeaves AreTelegramLines (telegram_in (S.left source.old)) (B.trace board.old) (B.trace board.new) result }
+    ensures read_mbus_answers { command_of (texts words.now) ≡ Ok Job.ReadMbus → S.tells → ReadAnswers (telegram_in (S.left source.old)) result }
+    ensures read_mbus_complete { command_of (texts words.now) ≡ Ok Job.ReadMbus → S.tells → ¬ Rose (S.faults source.old) (S.faults source.new) → ¬ Rose (B.output_faults board.old) (B.output_faults board.new) → result ≡ read_status (telegram_in (S.left source.old)) }
+    ensures read_mbus_reads { command_of (texts words.now) ≡ Ok Job.ReadMbus → S.tells → length (S.left source.old) ≤ length (S.left source.new) + 262 }
+    ensures read_mbus_untouched { command_of (texts words.now) ≡ Ok Job.ReadMbus → EndsUnread result → board.new ≡ board.old }
+
+    // The commands that put one line, `cert` and `show` read nothing.
     ensures unread { (job : Job) → command_of (texts words.now) ≡ Ok job → ReadsNothing job → source.new ≡ source.old }
+
+    // Nor does `run` where the memory is unformatted or foreign.
+    ensures run_unformatted { (byte : ℕ) → command_of (texts words.now) ≡ Ok Job.Run → result ≡ Status.Unformatted byte → source.new ≡ source.old }
+    ensures run_foreign { (at : ℕ) → command_of (texts words.now) ≡ Ok Job.Run → result ≡ Status.Foreign at → source.new ≡ source.old }
+
+    // But for `init`, `run` and `show`, no command makes a call on the memory, not even one that leaves no trace.
+    ensures memory_untouched { (job : Job) → command_of (texts words.now) ≡ Ok job → UsesNoMemory job → B.memory_calls board.new ≡ B.memory_calls board.old }
 
     // Each command has its own statuses.
     ensures ends { (job : Job) → command_of (texts words.now) ≡ Ok job → EndsBy job result }
@@ -118,8 +148,8 @@ pub fn meter<S: Source, B: Board>(
         Err(usage) => Status::Usage { word: usage.word },
         Ok(Job::Init) => init(alloc, source, board),
         Ok(Job::Show) => show(board),
-        Ok(Job::Run) => status_from(run(alloc, source, board)),
-        Ok(Job::Dry) => status_from(dry(alloc, source, board)),
+        Ok(Job::Run) => status_from(run(source, board)),
+        Ok(Job::Dry) => status_from(dry(source, board)),
         Ok(Job::Temp { sensor, r }) => temp(board, sensor, r),
         Ok(Job::Water { p_kpa, t_udeg }) => water(board, p_kpa, t_udeg),
         Ok(
@@ -184,6 +214,8 @@ pub fn meter<S: Source, B: Board>(
             },
         ) => bench::flow(board, class, qp, q, reference, indicated),
         Ok(Job::Gen { seed, count }) => generate(board, seed, count),
+        Ok(Job::Cert { p_kpa }) => cert(board, p_kpa),
+        Ok(Job::ReadMbus) => readout::mbus(source, board),
     }
 }
 
@@ -198,7 +230,6 @@ fn status_from(ended: Ended) -> Status
         Ended::Write => Status::Write,
         Ended::Unformatted { byte } => Status::Unformatted { byte },
         Ended::Foreign { at } => Status::Foreign { at },
-        Ended::OutOfMemory => Status::OutOfMemory,
         Ended::Cut => Status::Cut,
     }
 }

@@ -7,7 +7,7 @@ use Rattle.metering_model.specs.Settings.{Settings}
 use Rattle.metering_model.specs.Counting.{counted_by}
 use Rattle.metering_model.specs.Records as records
 use Rattle.metering_model.specs.Records.{StandsFor}
-use Rattle.metering_model.specs.Integral.{AddsBy, FitsWithMargin, TakesEvent}
+use Rattle.metering_model.specs.Integral.{AddsBy, FitsClosely, TakesEvent}
 use Rattle.metering_model.proofs.Steps.{stands-pulses, stands-date, takes}
 use Rattle.journal_model.specs.Faults.{event_fault, kind_fault}
 use Rattle.calendar_model.specs.Entries.{latest, passed_entries, set_entry}
@@ -76,7 +76,7 @@ date_taken c m new day keep room later months set_day moved kept = (
     same_months : entries_view new.months.items ≡ latest c.kept_months (entries_view m.months.items ++ passed_entries (register_view m.register) m.day.number day.number)
     same_months = months ∙ ap (λ n. latest n (entries_view m.months.items ++ passed_entries (register_view m.register) m.day.number day.number)) (sym keep)
 
-    no_date : (c : Settings) (samples : Option (ℕ × ℕ)) (day : ℕ) → AddsBy (FitsWithMargin c) (counted_by c samples (Date day)) (pos 0) 0
+    no_date : (c : Settings) (samples : Option (ℕ × ℕ)) (day : ℕ) → AddsBy (FitsClosely c) (counted_by c samples (Date day)) (pos 0) 0
     no_date c None day = (refl, refl)
     no_date c (Some s) day = (refl, refl)
 
@@ -89,7 +89,7 @@ samples_taken c m new rf rr room stands = (
   takes c (record_view m) new (Sample rf rr) (pos 0) 0 (no_samples c m.samples rf rr) stands,
 )
   where
-    no_samples : (c : Settings) (samples : Option (ℕ × ℕ)) (rf rr : ℕ) → AddsBy (FitsWithMargin c) (counted_by c samples (Sample rf rr)) (pos 0) 0
+    no_samples : (c : Settings) (samples : Option (ℕ × ℕ)) (rf rr : ℕ) → AddsBy (FitsClosely c) (counted_by c samples (Sample rf rr)) (pos 0) 0
     no_samples c None rf rr = (refl, refl)
     no_samples c (Some s) rf rr = (refl, refl)
 

@@ -13,7 +13,7 @@ use Rattle.metering_model.specs.Events.{Kept, Placed, placed, placed_after, puls
 use Rattle.metering_model.specs.Settings.{Settings}
 use Rattle.metering_model.specs.Counting.{Counted, counted_by, faulty_by}
 use Rattle.metering_model.specs.Records.{Register, MeterRecord, energy_in, register_after, samples_after, days_in, day_after, counted_at, faulty_at, months_by, months_at, entries_at, set_entries_at, record_after, StandsFor}
-use Rattle.metering_model.specs.Integral.{Fits, FitsWithMargin, AddsBy, AllFit, AllFitWithMargin}
+use Rattle.metering_model.specs.Integral.{Fits, FitsWithMargin, FitsClosely, AddsBy, AllFit, AllFitWithMargin, AllFitClosely}
 
 -- ---- places
 pub placed-append : (before hs ls : List Kept) → placed_after before (hs ++ ls) ≡ placed_after before hs ++ placed_after (before ++ hs) ls
@@ -191,8 +191,11 @@ fit-joined c o hs ls = adds-joined (Fits c) c o hs ls
 pub margin-joined : (c : Settings) (o : MeterRecord) (hs ls : List Kept) → AllFitWithMargin c o hs → AllFitWithMargin c (record_after c o hs) ls → AllFitWithMargin c o (hs ++ ls)
 margin-joined c o hs ls = adds-joined (FitsWithMargin c) c o hs ls
 
-pub fit-front : (c : Settings) (o : MeterRecord) (hs ls : List Kept) → AllFitWithMargin c o (hs ++ ls) → AllFitWithMargin c o hs
-fit-front c o hs ls = adds-front (FitsWithMargin c) c o hs ls
+pub closely-joined : (c : Settings) (o : MeterRecord) (hs ls : List Kept) → AllFitClosely c o hs → AllFitClosely c (record_after c o hs) ls → AllFitClosely c o (hs ++ ls)
+closely-joined c o hs ls = adds-joined (FitsClosely c) c o hs ls
+
+pub fit-front : (c : Settings) (o : MeterRecord) (hs ls : List Kept) → AllFitClosely c o (hs ++ ls) → AllFitClosely c o hs
+fit-front c o hs ls = adds-front (FitsClosely c) c o hs ls
 
 of_margin : (c : Settings) (k : Option Counted) (e : ℤ) (b : ℕ) → AddsBy (FitsWithMargin c) k e b → AddsBy (Fits c) k e b
 of_margin c None e b adds = adds
@@ -203,6 +206,18 @@ fit-of-margin c o ks =
     all-each (λ (e : Placed). AddsBy (FitsWithMargin c) (counted_at c o e) e.kept.energy_mj e.kept.bound_mj) (λ (e : Placed). AddsBy (Fits c) (counted_at c o e) e.kept.energy_mj e.kept.bound_mj) (placed ks)
     (λ e. of_margin c (counted_at c o e) e.kept.energy_mj e.kept.bound_mj)
 
-pub fit-more : (c : Settings) (o : MeterRecord) (ks : List Kept) (k : Kept) → AllFitWithMargin c o ks
-    → AddsBy (FitsWithMargin c) (counted_by c (samples_after o.samples ks) k.event) k.energy_mj k.bound_mj → AllFitWithMargin c o (ks ++ k ∷ [])
-fit-more c o ks k = adds-more (FitsWithMargin c) c o ks k
+of_closely : (c : Settings) (k : Option Counted) (e : ℤ) (b : ℕ) → AddsBy (FitsClosely c) k e b → AddsBy (FitsWithMargin c) k e b
+of_closely c None e b adds = adds
+of_closely c (Some k) e b adds = adds.margin
+
+pub margin-of-closely : (c : Settings) (o : MeterRecord) (ks : List Kept) → AllFitClosely c o ks → AllFitWithMargin c o ks
+margin-of-closely c o ks =
+    all-each (λ (e : Placed). AddsBy (FitsClosely c) (counted_at c o e) e.kept.energy_mj e.kept.bound_mj) (λ (e : Placed). AddsBy (FitsWithMargin c) (counted_at c o e) e.kept.energy_mj e.kept.bound_mj) (placed ks)
+    (λ e. of_closely c (counted_at c o e) e.kept.energy_mj e.kept.bound_mj)
+
+pub fit-of-closely : (c : Settings) (o : MeterRecord) (ks : List Kept) → AllFitClosely c o ks → AllFit c o ks
+fit-of-closely c o ks all = fit-of-margin c o ks (margin-of-closely c o ks all)
+
+pub fit-more : (c : Settings) (o : MeterRecord) (ks : List Kept) (k : Kept) → AllFitClosely c o ks
+    → AddsBy (FitsClosely c) (counted_by c (samples_after o.samples ks) k.event) k.energy_mj k.bound_mj → AllFitClosely c o (ks ++ k ∷ [])
+fit-more c o ks k = adds-more (FitsClosely c) c o ks k

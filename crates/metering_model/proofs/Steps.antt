@@ -8,7 +8,7 @@ use Rattle.metering_model.specs.Events.{Event, Sample, Pulse, Date}
 use Rattle.metering_model.specs.Settings.{Settings}
 use Rattle.metering_model.specs.Counting.{counted_by, faulty_by, is_in_range}
 use Rattle.metering_model.specs.Records.{MeterRecord, Register, StandsFor, register_after}
-use Rattle.metering_model.specs.Integral.{AddsBy, FitsWithMargin, TakesEvent}
+use Rattle.metering_model.specs.Integral.{AddsBy, FitsClosely, TakesEvent}
 use Rattle.metering_model.proofs.Joined.{stands-joined}
 
 -- a record whose months are those that are kept is the one that stands for itself
@@ -102,7 +102,7 @@ stands-date c r day later = record {
 
 -- what stands for an event after a record stands for it after any events
 pub takes : (c : Settings) (old new : MeterRecord) (event : Event) (e : ℤ) (b : ℕ)
-    → AddsBy (FitsWithMargin c) (counted_by c old.samples event) e b
+    → AddsBy (FitsClosely c) (counted_by c old.samples event) e b
     → StandsFor c old (record { event = event; energy_mj = e; bound_mj = b } ∷ []) new
     → TakesEvent c old event new
 takes c old new event e b fits stands = record {

@@ -71,6 +71,17 @@ pub record FitsWithMargin (c : Settings) (k : Counted) (e : ℤ) (b : ℕ) : Typ
   pub return_ends : AreCellEnds c.ret k.ret return_lo return_hi
   pub narrow : 12 * b ≤ k.litres * (15600 + (flow_hi - flow_lo) + (return_hi - return_lo))
 
+-- fifteen times the greatest bound of a litre between two single temperatures, in millijoules: 18,000 for the margin, and 128
+-- for the enclosure of its energy and the rounding of the middle
+abbrev pub bound_at_points : ℕ
+bound_at_points = 18128
+
+-- They fit closely: they fit with margin, and what b has beyond the margin is, in millijoules a litre, at most a fifteenth of
+-- 128 and the widths of the cells in nanodegrees. So e is as near to the exact energy, whatever the temperatures in the cells.
+pub record FitsClosely (c : Settings) (k : Counted) (e : ℤ) (b : ℕ) : Type 0 where
+  pub margin : FitsWithMargin c k e b
+  pub closer : 15 * b ≤ k.litres * (bound_at_points + (margin.flow_hi - margin.flow_lo) + (margin.return_hi - margin.return_lo))
+
 -- where an event counts energy, e and b are by this rule; where it counts none, both are 0
 abbrev pub AddsBy : (Counted → ℤ → ℕ → Type 0) → Option Counted → ℤ → ℕ → Type 0
 AddsBy Rule None e b = (e ≡ pos 0) × (b ≡ 0)
@@ -84,16 +95,20 @@ AllFit c o ks = AllByRecursion (λ e. AddsBy (Fits c) (counted_at c o e) e.kept.
 abbrev pub AllFitWithMargin : Settings → MeterRecord → List Kept → Type 0
 AllFitWithMargin c o ks = AllByRecursion (λ e. AddsBy (FitsWithMargin c) (counted_at c o e) e.kept.energy_mj e.kept.bound_mj) (placed ks)
 
+-- the events fit closely
+abbrev pub AllFitClosely : Settings → MeterRecord → List Kept → Type 0
+AllFitClosely c o ks = AllByRecursion (λ e. AddsBy (FitsClosely c) (counted_at c o e) e.kept.energy_mj e.kept.bound_mj) (placed ks)
+
 -- the energy of the events differs from the exact integral by at most their bound, which is at most 2,000 mJ a litre
 pub record IsBounded (c : Settings) (o : MeterRecord) (choice : ℕ → Temps) (ks : List Kept) : Type 0 where
   pub near : IsNear (energy_in ks) (pos (bound_in ks)) (exact_integral c o choice ks)
   pub cap : bound_in ks ≤ 2000 * counted_litres c o ks
 
--- The record takes one more event: what it adds fits with margin, at the samples in force, and where the record stood for
+-- The record takes one more event: what it adds fits closely, at the samples in force, and where the record stood for
 -- some events, it then stands for these and the new one.
 pub record TakesEvent (c : Settings) (old : MeterRecord) (event : Event) (new : MeterRecord) : Type 0 where
   pub energy_mj : ℤ
   pub bound_mj : ℕ
-  pub fits : AddsBy (FitsWithMargin c) (counted_by c old.samples event) energy_mj bound_mj
+  pub fits : AddsBy (FitsClosely c) (counted_by c old.samples event) energy_mj bound_mj
   pub stands : (o : MeterRecord) (ks : List Kept) → StandsFor c o ks old
       → StandsFor c o (ks ++ record { event = event; energy_mj = energy_mj; bound_mj = bound_mj } ∷ []) new

@@ -4,3 +4,4 @@ pub mod Roundings
 pub mod Order
 pub mod Powers
 pub mod Enclosures
+mod Worked

@@ -1,6 +1,7 @@
 //! What the head hears, and what it answers.
-ghost use Rattle.std.specs.Prelude.{ℕ, List, Option, None, Some};
+ghost use Rattle.std.specs.Prelude.{ℕ, ◌≤◌, List, Option, None, Some, IfSome};
 ghost use Rattle.std.specs.Option.{option_map};
+ghost use Rattle.arrayvec.specs.ArrayVec.{array_vec_len};
 ghost use Rattle.config_model.specs.Configuration.{Configuration};
 ghost use Rattle.optical_model.specs.Replies.{Replies};
 ghost use Rattle.meter_config.specs.Views.{config_view};
@@ -37,7 +38,7 @@ impl Optical {
     /// digits and spaces, `!` CR LF; it is this meter's where the address is empty or, but for zeros at
     /// the front of either, the serial number. The reply to it is the identification. The reply to an
     /// option select, ACK `0` Z `0` CR LF with Z from `0` to `6`, directly after such a request is the
-    /// data message of the record `m`. There is no other reply.
+    /// data message of the record `m`. There is no other reply. A reply has at most 1,830 bytes.
     pub fn hear(
         &mut self,
         message: &[u8],
@@ -47,6 +48,7 @@ impl Optical {
         ensures reply { (last : Option (List ℕ)) → Heard (config_view c.now) last self.old
             → Replies (config_view c.now) (record_view m.now) last message.now (option_map (λ reply. reply.items) result) }
         ensures heard { Heard (config_view c.now) (Some message.now) self.new }
+        ensures size { IfSome result (λ reply. array_vec_len reply ≤ 1830) }
     {
         let selected = self.selected;
         self.selected = is_request(message, c);

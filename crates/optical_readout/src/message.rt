@@ -1,5 +1,6 @@
 //! The messages of the meter.
-ghost use Rattle.std.specs.Prelude.{◌≡◌, bit_xor};
+ghost use Rattle.std.specs.Prelude.{◌≡◌, ◌≤◌, bit_xor};
+ghost use Rattle.arrayvec.specs.ArrayVec.{array_vec_len};
 ghost use Rattle.optical_model.specs.Messages as model;
 ghost use Rattle.optical_model.specs.Messages.{IsDataMessage};
 ghost use Rattle.billing_memory.specs.Records.{record_view};
@@ -19,7 +20,8 @@ const ETX: u8 = 0x03;
 
 /// The identification: the maker's letters and the name of the meter's kind.
 pub(crate) fn identification(c: &Config) -> ArrayVec<u8, REPLY_ROOM>
-    ensures { result.items ≡ model.identification (config_view c.now) }
+    ensures items { result.items ≡ model.identification (config_view c.now) }
+    ensures len { array_vec_len result ≡ 11 }
 {
     let mut message = ArrayVec::new();
     push_text(&mut message, b"/");
@@ -30,7 +32,8 @@ pub(crate) fn identification(c: &Config) -> ArrayVec<u8, REPLY_ROOM>
 
 /// The data message of a record.
 pub(crate) fn data_message(c: &Config, m: &MeterRecord) -> ArrayVec<u8, REPLY_ROOM>
-    ensures { IsDataMessage (config_view c.now) (record_view m.now) result.items }
+    ensures data { IsDataMessage (config_view c.now) (record_view m.now) result.items }
+    ensures len { array_vec_len result ≤ 1830 }
 {
     let mut message = ArrayVec::new();
     message.push(STX);

@@ -16,7 +16,7 @@ use Rattle.platinum_model.proofs.Scaled.{at_most, of_at_most, at_least, of_at_le
 use Rattle.platinum_model.proofs.Samples.{nanodegrees-rises, from_0, to_180, le-nanodegrees, IsInRange-low}
 
 -- r - 1/2
-less_half : (r : ℕ) → 0 < r → (whole r -ℚ half) ≈ ratio (2 * r - 1) 2 (lit< tt)
+pub less_half : (r : ℕ) → 0 < r → (whole r -ℚ half) ≈ ratio (2 * r - 1) 2 (lit< tt)
 less_half r h =
     let back : (r - 1) + 1 ≡ r = omega arith in
     let odd : 2 * (r - 1) + 1 ≡ 2 * r - 1 = omega arith in

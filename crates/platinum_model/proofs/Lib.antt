@@ -5,3 +5,4 @@ pub mod Scaled
 pub mod Samples
 pub mod Cells
 pub mod Pairs
+pub mod Worked

@@ -26,7 +26,7 @@ resistance-same e {s} {t} h =
     same_add up (same_neg quadratic) in
     same_mul (same_refl (whole e.r0_uohm)) both
 
-microdegrees-same : (n : ℕ) → microdegrees n ≈ nanodegrees (1000 * n)
+pub microdegrees-same : (n : ℕ) → microdegrees n ≈ nanodegrees (1000 * n)
 microdegrees-same n = record { crossed = omega (arith, ints) }
 
 at_0 : (e : Element) → IsRising e → resistance e (whole 0) ≈ ratio (scaled_resistance e 0) (10 ^ 28) (lit< tt)

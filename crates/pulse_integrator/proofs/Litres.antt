@@ -1,4 +1,4 @@
--- A litre whose energy is enclosed fits with margin, and so do many litres.
+-- A litre whose energy is enclosed fits closely, and so do many litres.
 use Rattle.std.proofs.Common.{◌≡◌, ℕ, ◌+◌, ◌-◌, ◌*◌, ◌≤◌, refl, sym, subst, ap, ◌∙◌, arith, pos, ℤ, ◌+ℤ◌, ◌-ℤ◌, ◌*ℤ◌, ◌≤ℤ◌, Bool, true, false, ◌&&◌, cond, Option, None, Some}
 use Rattle.std.proofs.lemmas.Int.{ints}
 use native.Mathlib.Nat.{mul-le-mul_left}
@@ -13,7 +13,7 @@ use Rattle.heat_model.specs.Heat.{Place, LiesBetween, litre_energy}
 use Rattle.metering_model.specs.Events.{Pulse}
 use Rattle.metering_model.specs.Settings.{Settings}
 use Rattle.metering_model.specs.Counting.{Counted, counted_by, counts, faulty_by, is_in_range}
-use Rattle.metering_model.specs.Integral.{AddsBy, FitsWithMargin, Temps, AreInCells}
+use Rattle.metering_model.specs.Integral.{AddsBy, FitsClosely, Temps, AreInCells, bound_at_points}
 use Rattle.metering_model.proofs.Counting.{counts-true, counts-false, counts-no_flow, counts-no_return, in_range-true, in_range-false}
 use Rattle.pt_curve.specs.Curve.{element}
 use Rattle.sensor_pair.specs.Place.{place_view}
@@ -67,11 +67,9 @@ pub record IsEnclosed (flow ret : Element) (rf rr : ℕ) (p : ℕ) (place : Plac
   pub flow_cell : IsCellSpan flow rf l.flow.lo l.flow.hi
   pub return_cell : IsCellSpan ret rr l.ret.lo l.ret.hi
   pub holds : (tf tr : Fraction) → SpanHolds l.flow.lo l.flow.hi tf → SpanHolds l.ret.lo l.ret.hi tr → LiesBetween lo hi (litre_energy p place tf tr)
-  pub ordered : lo ≤ℤ hi
-  pub width : (pos 6 *ℤ (hi -ℤ lo)) ≤ℤ pos (600 + (l.flow.hi - l.flow.lo) + (l.ret.hi - l.ret.lo))
   pub low : (l.e_mj -ℤ (pos l.b_mj -ℤ pos 1200)) ≤ℤ lo
   pub high : hi ≤ℤ (l.e_mj +ℤ (pos l.b_mj -ℤ pos 1200))
-  pub narrow : pos (12 * l.b_mj) ≤ℤ (pos 14406 +ℤ pos 6 *ℤ (hi -ℤ lo))
+  pub closer : 15 * l.b_mj ≤ bound_at_points + (l.flow.hi - l.flow.lo) + (l.ret.hi - l.ret.lo)
 
 -- a litre of an energy that was enclosed fits
 fits_litre : (c : Settings) (rf rr : ℕ) (lo hi : ℤ) (l : PerLitre) → IsEnclosed c.flow c.ret rf rr c.pressure_kpa c.place lo hi l
@@ -79,12 +77,12 @@ fits_litre : (c : Settings) (rf rr : ℕ) (lo hi : ℤ) (l : PerLitre) → IsEnc
 fits_litre c rf rr lo hi l h = record {
   fits = record {
     near = λ t cells. lies_once (l.e_mj -ℤ pos l.b_mj) (l.e_mj +ℤ pos l.b_mj) t cells (wide_low l.e_mj lo l.b_mj h.low) (wide_high l.e_mj hi l.b_mj h.high);
-    cap = cap_of l.b_mj lo hi (l.flow.hi - l.flow.lo) (l.ret.hi - l.ret.lo) h.narrow h.width (narrow_cell _ _ h.flow_cell.width) (narrow_cell _ _ h.return_cell.width);
+    cap = cap_of l.b_mj _ _ h.closer (narrow_cell _ _ h.flow_cell.width) (narrow_cell _ _ h.return_cell.width);
   };
   nearer = λ t cells. lies_once (l.e_mj -ℤ (pos l.b_mj -ℤ pos (1200 * 1))) (l.e_mj +ℤ (pos l.b_mj -ℤ pos (1200 * 1))) t cells h.low h.high;
   flow_ends = h.flow_cell.ends;
   return_ends = h.return_cell.ends;
-  narrow = narrow_of l.b_mj lo hi (l.flow.hi - l.flow.lo) (l.ret.hi - l.ret.lo) h.narrow h.width;
+  closer = omega (arith, h.closer);
 }
   where
     wide_low : (e lo : ℤ) (b : ℕ) → (e -ℤ (pos b -ℤ pos 1200)) ≤ℤ lo → (e -ℤ pos b) ≤ℤ lo
@@ -96,11 +94,8 @@ fits_litre c rf rr lo hi l h = record {
     narrow_cell : (a b : ℕ) → b ≤ a + 2800 → b - a ≤ 2800
     narrow_cell a b h = omega arith
 
-    cap_of : (b : ℕ) (lo hi : ℤ) (v w : ℕ) → pos (12 * b) ≤ℤ (pos 14406 +ℤ pos 6 *ℤ (hi -ℤ lo)) → (pos 6 *ℤ (hi -ℤ lo)) ≤ℤ pos (600 + v + w) → v ≤ 2800 → w ≤ 2800 → b ≤ 2000 * 1
-    cap_of b lo hi v w n h p q = omega (arith, ints)
-
-    narrow_of : (b : ℕ) (lo hi : ℤ) (v w : ℕ) → pos (12 * b) ≤ℤ (pos 14406 +ℤ pos 6 *ℤ (hi -ℤ lo)) → (pos 6 *ℤ (hi -ℤ lo)) ≤ℤ pos (600 + v + w) → 12 * b ≤ 1 * (15600 + v + w)
-    narrow_of b lo hi v w n h = omega (arith, ints)
+    cap_of : (b v w : ℕ) → 15 * b ≤ bound_at_points + v + w → v ≤ 2800 → w ≤ 2800 → b ≤ 2000 * 1
+    cap_of b v w n p q = omega arith
 
     lies_once : (a b : ℤ) (t : Temps) → AreInCells c (record { flow = rf; ret = rr; litres = 1 }) t → a ≤ℤ lo → hi ≤ℤ b → LiesBetween a b (whole 1 *ℚ litre_energy c.pressure_kpa c.place t.flow t.ret)
     lies_once a b t cells p q =
@@ -131,21 +126,24 @@ counted_fits c samples o lo hi l k h counting e is =
     subst (λ k. FitsLitre c k l) (same_some (sym litre ∙ is)) (fits_litre c o.rf o.rr lo hi l (here c samples o lo hi l h e))
 
 -- x litres of it
-pub margin_times : (c : Settings) (rf rr x : ℕ) (l : PerLitre) → FitsLitre c (record { flow = rf; ret = rr; litres = 1 }) l
-    → FitsWithMargin c (record { flow = rf; ret = rr; litres = x }) (pos x *ℤ l.e_mj) (x * l.b_mj)
-margin_times c rf rr x l one = record {
-  fits = record {
-    near = λ t h. many (pos l.b_mj) (pos (x * l.b_mj)) t refl (one.fits.near t (cells t h));
-    cap = cap_of x l.b_mj one.fits.cap;
+pub closely_times : (c : Settings) (rf rr x : ℕ) (l : PerLitre) → FitsLitre c (record { flow = rf; ret = rr; litres = 1 }) l
+    → FitsClosely c (record { flow = rf; ret = rr; litres = x }) (pos x *ℤ l.e_mj) (x * l.b_mj)
+closely_times c rf rr x l one = record {
+  margin = record {
+    fits = record {
+      near = λ t h. many (pos l.b_mj) (pos (x * l.b_mj)) t refl (one.fits.near t (cells t h));
+      cap = cap_of x l.b_mj one.fits.cap;
+    };
+    nearer = λ t h. many (pos l.b_mj -ℤ pos (1200 * 1)) (pos (x * l.b_mj) -ℤ pos (1200 * x)) t (margin_same l.b_mj) (one.nearer t (cells t h));
+    flow_lo = l.flow.lo;
+    flow_hi = l.flow.hi;
+    return_lo = l.ret.lo;
+    return_hi = l.ret.hi;
+    flow_ends = one.flow_ends;
+    return_ends = one.return_ends;
+    narrow = times_of x l.b_mj 12 15600 _ _ (wider l.b_mj _ _ one.closer);
   };
-  nearer = λ t h. many (pos l.b_mj -ℤ pos (1200 * 1)) (pos (x * l.b_mj) -ℤ pos (1200 * x)) t (margin_same l.b_mj) (one.nearer t (cells t h));
-  flow_lo = l.flow.lo;
-  flow_hi = l.flow.hi;
-  return_lo = l.ret.lo;
-  return_hi = l.ret.hi;
-  flow_ends = one.flow_ends;
-  return_ends = one.return_ends;
-  narrow = narrow_of x l.b_mj _ _ one.narrow;
+  closer = times_of x l.b_mj 15 bound_at_points _ _ one.closer;
 }
   where
     cells : (t : Temps) → AreInCells c (record { flow = rf; ret = rr; litres = x }) t → AreInCells c (record { flow = rf; ret = rr; litres = 1 }) t
@@ -154,10 +152,13 @@ margin_times c rf rr x l one = record {
     cap_of : (x b : ℕ) → b ≤ 2000 * 1 → x * b ≤ 2000 * x
     cap_of x b h = let k : x * b ≤ x * 2000 = mul-le-mul_left x h in omega (arith, k)
 
-    narrow_of : (x b v w : ℕ) → 12 * b ≤ 1 * (15600 + v + w) → 12 * (x * b) ≤ x * (15600 + v + w)
-    narrow_of x b v w h =
-        let one : 12 * b ≤ 15600 + v + w = omega (arith, h) in
-        let k : x * (12 * b) ≤ x * (15600 + v + w) = mul-le-mul_left x one in
+    wider : (b v w : ℕ) → 15 * b ≤ 1 * (bound_at_points + v + w) → 12 * b ≤ 1 * (15600 + v + w)
+    wider b v w h = omega (arith, h)
+
+    times_of : (x b n p v w : ℕ) → n * b ≤ 1 * (p + v + w) → n * (x * b) ≤ x * (p + v + w)
+    times_of x b n p v w h =
+        let one : n * b ≤ p + v + w = omega (arith, h) in
+        let k : x * (n * b) ≤ x * (p + v + w) = mul-le-mul_left x one in
         omega (arith, k)
 
     less : (a d : ℤ) → pos x *ℤ a -ℤ pos x *ℤ d ≡ pos x *ℤ (a -ℤ d)
@@ -189,14 +190,14 @@ adds_counted o lo hi l counting e size sound = record {
   uncounted = λ c samples h is. absurd (some_none (sym (litre c samples h) ∙ is));
   faulty = λ c samples h. faulty c samples h;
   size = size;
-  bound = bound_of l.b_mj lo hi (l.flow.hi - l.flow.lo) (l.ret.hi - l.ret.lo) e.narrow e.width (narrow_cell _ _ e.flow_cell.width) (narrow_cell _ _ e.return_cell.width);
+  bound = bound_of l.b_mj _ _ e.closer (narrow_cell _ _ e.flow_cell.width) (narrow_cell _ _ e.return_cell.width);
 }
   where
     narrow_cell : (a b : ℕ) → b ≤ a + 2800 → b - a ≤ 2800
     narrow_cell a b h = omega arith
 
-    bound_of : (b : ℕ) (lo hi : ℤ) (v w : ℕ) → pos (12 * b) ≤ℤ (pos 14406 +ℤ pos 6 *ℤ (hi -ℤ lo)) → (pos 6 *ℤ (hi -ℤ lo)) ≤ℤ pos (600 + v + w) → v ≤ 2800 → w ≤ 2800 → b ≤ 2000
-    bound_of b lo hi v w n h p q = omega (arith, ints)
+    bound_of : (b v w : ℕ) → 15 * b ≤ bound_at_points + v + w → v ≤ 2800 → w ≤ 2800 → b ≤ 2000
+    bound_of b v w n p q = omega arith
 
     litre : (c : Settings) (samples : Option (ℕ × ℕ)) → AreInForce c samples (Some o) → litre_by c samples ≡ Some (record { flow = o.rf; ret = o.rr; litres = 1 })
     litre c samples h =
@@ -307,9 +308,9 @@ adds_pulses per_pulse origin l n s litre e b faulty = record {
     counts_at c (Some t) = counts c t.0 t.1
 
     fits : (c : Settings) (samples : Option (ℕ × ℕ)) → AreInForce c samples origin → (counted : Bool) → counts_at c samples ≡ counted
-        → AddsBy (FitsWithMargin c) (counted_by c samples (Pulse n)) (pos (n * c.litres_per_pulse) *ℤ l.e_mj) ((n * c.litres_per_pulse) * l.b_mj)
+        → AddsBy (FitsClosely c) (counted_by c samples (Pulse n)) (pos (n * c.litres_per_pulse) *ℤ l.e_mj) ((n * c.litres_per_pulse) * l.b_mj)
     fits c None h counted is = none_of (n * c.litres_per_pulse) l.e_mj l.b_mj (litre.uncounted c None h refl)
-    fits c (Some t) h true is = rw is (margin_times c t.0 t.1 (n * c.litres_per_pulse) l (litre.counted c (Some t) _ h (rw is refl)))
+    fits c (Some t) h true is = rw is (closely_times c t.0 t.1 (n * c.litres_per_pulse) l (litre.counted c (Some t) _ h (rw is refl)))
     fits c (Some t) h false is = rw is (none_of (n * c.litres_per_pulse) l.e_mj l.b_mj (litre.uncounted c (Some t) h (rw is refl)))
 
     faulty_times : (c : Settings) (samples : Option (ℕ × ℕ)) (f : Bool) → cond f 1 0 ≡ faulty_by c samples 1 → cond f n 0 ≡ faulty_by c samples n

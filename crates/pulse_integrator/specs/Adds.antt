@@ -5,7 +5,7 @@ use Rattle.platinum_model.specs.Sample.{AreCellEnds}
 use Rattle.metering_model.specs.Events.{Pulse}
 use Rattle.metering_model.specs.Settings.{Settings}
 use Rattle.metering_model.specs.Counting.{Counted, counted_by, counts, faulty_by}
-use Rattle.metering_model.specs.Integral.{AddsBy, Fits, FitsWithMargin, Temps, AreInCells, IsNear, energy_of}
+use Rattle.metering_model.specs.Integral.{AddsBy, Fits, FitsClosely, Temps, AreInCells, IsNear, bound_at_points, energy_of}
 use Rattle.energy_register.specs.declared.Step.{Step}
 use Rattle.pt_curve.specs.Curve.{element}
 use Rattle.sensor_pair.specs.Place.{place_view}
@@ -19,10 +19,10 @@ AreInForce c samples (Some o) =
     (samples ≡ Some (o.rf, o.rr)) × (c.pressure_kpa ≡ o.water.p_kpa) × (c.place ≡ place_view o.place)
     × (c.flow ≡ element o.pair.flow) × (c.ret ≡ element o.pair.ret)
 
--- The step of n pulses at these samples: where they count, the energy and its bound fit with margin, else both are 0, and
+-- The step of n pulses at these samples: where they count, the energy and its bound fit closely, else both are 0, and
 -- the pulses are faulty where a sample is out of range.
 pub record IsStep (c : Settings) (samples : Option (ℕ × ℕ)) (n : ℕ) (s : Step) : Type 0 where
-  pub fits : AddsBy (FitsWithMargin c) (counted_by c samples (Pulse n)) s.e_mj s.b_mj
+  pub fits : AddsBy (FitsClosely c) (counted_by c samples (Pulse n)) s.e_mj s.b_mj
   pub faulty : s.faulty ≡ faulty_by c samples n
 
 -- what n pulses add, whatever the meter with this origin is
@@ -37,13 +37,13 @@ abbrev pub litre_by : Settings → Option (ℕ × ℕ) → Option Counted
 litre_by c None = None
 litre_by c (Some s) = cond (counts c s.0 s.1) (Some (record { flow = s.0; ret = s.1; litres = 1 })) None
 
--- a litre that counts fits with margin, with its cells
+-- a litre that counts fits closely, with its cells
 pub record FitsLitre (c : Settings) (k : Counted) (l : PerLitre) : Type 0 where
   pub fits : Fits c k l.e_mj l.b_mj
   pub nearer : (t : Temps) → AreInCells c k t → IsNear l.e_mj (pos l.b_mj -ℤ pos (1200 * k.litres)) (energy_of c k t)
   pub flow_ends : AreCellEnds c.flow k.flow l.flow.lo l.flow.hi
   pub return_ends : AreCellEnds c.ret k.ret l.ret.lo l.ret.hi
-  pub narrow : 12 * l.b_mj ≤ k.litres * (15600 + (l.flow.hi - l.flow.lo) + (l.ret.hi - l.ret.lo))
+  pub closer : 15 * l.b_mj ≤ k.litres * (bound_at_points + (l.flow.hi - l.flow.lo) + (l.ret.hi - l.ret.lo))
 
 -- what a litre adds, whatever the meter with this origin is
 pub record AddsLitre (origin : Option Origin) (l : PerLitre) : Type 0 where

@@ -1,7 +1,8 @@
 //! What one litre adds.
 
-ghost use Rattle.std.specs.Prelude.{◌≡◌, ◌+◌, ◌*◌, ◌≤◌, true, false, pos, ◌+ℤ◌, ◌-ℤ◌, ◌*ℤ◌, ◌≤ℤ◌};
+ghost use Rattle.std.specs.Prelude.{◌≡◌, ◌+◌, ◌-◌, ◌*◌, ◌≤◌, true, false, pos, ◌+ℤ◌, ◌-ℤ◌, ◌*ℤ◌, ◌≤ℤ◌};
 ghost use Rattle.number_model.specs.Rounding.{IsWithin};
+ghost use Rattle.metering_model.specs.Integral.{bound_at_points};
 
 use heat_coeff::Litre;
 use interval_num::Span;
@@ -48,11 +49,16 @@ impl PerLitre {
     /// leaves the margin.
     pub(crate) fn of(q: Litre, flow: Span, ret: Span) -> PerLitre
         requires ordered { q.lo_mj ≤ℤ q.hi_mj }
-        requires least { IsWithin 2000000000 q.lo_mj }
-        requires most { IsWithin 2000000000 q.hi_mj }
-        requires close { q.hi_mj ≤ℤ (q.lo_mj +ℤ pos 1200) }
+        requires least { IsWithin 1400000000 q.lo_mj }
+        requires most { IsWithin 1400000000 q.hi_mj }
+        requires flow_narrow { flow.hi - flow.lo ≤ 2800 }
+        requires return_narrow { ret.hi - ret.lo ≤ 2800 }
+        requires close { (pos 15 *ℤ (q.hi_mj -ℤ q.lo_mj)) ≤ℤ
+            pos (241 + 2 * ((flow.hi - flow.lo) + (ret.hi - ret.lo))) }
         ensures low { (result.e_mj -ℤ (pos result.b_mj -ℤ pos 1200)) ≤ℤ q.lo_mj }
         ensures high { q.hi_mj ≤ℤ (result.e_mj +ℤ (pos result.b_mj -ℤ pos 1200)) }
+        ensures closer { 15 * result.b_mj ≤
+            bound_at_points + (flow.hi - flow.lo) + (ret.hi - ret.lo) }
         ensures narrow { pos (12 * result.b_mj) ≤ℤ (pos 14406 +ℤ pos 6 *ℤ (q.hi_mj -ℤ q.lo_mj)) }
         ensures size { IsWithin 2000000000 result.e_mj }
         ensures faulty { result.faulty ≡ false }
@@ -60,9 +66,10 @@ impl PerLitre {
         ensures ret { result.ret ≡ ret }
     {
         let e_mj = middle(q);
+        let b_mj = bound(q.hi_mj, e_mj);
         PerLitre {
             e_mj,
-            b_mj: (MARGIN_MJ + q.hi_mj - i128::from(e_mj)) as u32,
+            b_mj,
             faulty: false,
             flow,
             ret,
@@ -72,10 +79,20 @@ impl PerLitre {
 
 // The middle of the energy `q`, rounded down.
 fn middle(q: Litre) -> i64
-    requires least { IsWithin 2000000000 q.lo_mj }
-    requires most { IsWithin 2000000000 q.hi_mj }
+    requires least { IsWithin 1400000000 q.lo_mj }
+    requires most { IsWithin 1400000000 q.hi_mj }
     ensures low { (pos 2 *ℤ result) ≤ℤ (q.lo_mj +ℤ q.hi_mj) }
     ensures high { (q.lo_mj +ℤ q.hi_mj) ≤ℤ (pos 2 *ℤ result +ℤ pos 1) }
 {
     ((q.lo_mj + q.hi_mj) >> 1) as i64
+}
+
+// The bound of a litre that has at most `hi_mj`, and is counted as `e_mj`: the margin is left.
+fn bound(hi_mj: i128, e_mj: i64) -> u32
+    requires size { IsWithin 1400000000 hi_mj }
+    requires least { e_mj ≤ℤ hi_mj }
+    requires most { hi_mj ≤ℤ (e_mj +ℤ pos 1200) }
+    ensures { pos result ≡ pos 1200 +ℤ (hi_mj -ℤ e_mj) }
+{
+    (MARGIN_MJ + (hi_mj - i128::from(e_mj))) as u32
 }

@@ -60,8 +60,8 @@ impl Rate {
     }
 
     /// What `n` pulses add, 1 to 10^15: the energy and a bound of its error, which hold the exact energy
-    /// for all temperatures that the samples stand for, with 1,200 mJ a litre left in the bound, and how
-    /// many of the pulses are faulty.
+    /// for all temperatures that the samples stand for, with 1,200 mJ a litre left in the bound and hardly
+    /// more, and how many of the pulses are faulty.
     pub fn add(&self, n: u64) -> Step
         requires some { 1 ≤ n }
         requires most { n ≤ 1000000000000000 }

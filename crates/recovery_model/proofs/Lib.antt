@@ -1,3 +1,4 @@
 pub mod Shown
 pub mod Acknowledged
 pub mod Held
+mod Worked

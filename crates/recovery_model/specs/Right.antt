@@ -2,7 +2,7 @@
 use Rattle.std.specs.Prelude.{◌≡◌, ◌⊎◌, ℕ, ◌≤◌, ℤ, List, [], ◌∷◌, ◌++◌, length, None, Some, Ok, IsTrue, slice_get}
 use Rattle.metering_model.specs.Events.{Event, Kept}
 use Rattle.metering_model.specs.Records.{MeterRecord, StandsFor, record_after}
-use Rattle.metering_model.specs.Integral.{AllFitWithMargin}
+use Rattle.metering_model.specs.Integral.{AllFitClosely}
 use Rattle.script_model.specs.Grammar.{Metering, line_of}
 use Rattle.trace_model.specs.Trace.{Trace, Start, ◌▷◌}
 use Rattle.trace_model.specs.Output.{bytes_put, is_output_line, output_lines}
@@ -29,16 +29,16 @@ pub record StandsForNext (c : Configuration) (o : MeterRecord) (lines : List (Li
   pub next : NextIsEvent (on_memory c) o lines kept n event
   pub energy_mj : ℤ
   pub bound_mj : ℕ
-  pub fits : AllFitWithMargin (settings_for c) o (kept ++ record { event = event; energy_mj = energy_mj; bound_mj = bound_mj } ∷ [])
+  pub fits : AllFitClosely (settings_for c) o (kept ++ record { event = event; energy_mj = energy_mj; bound_mj = bound_mj } ∷ [])
   pub stands : StandsFor (settings_for c) o (kept ++ record { event = event; energy_mj = energy_mj; bound_mj = bound_mj } ∷ []) held
 
 -- The memory is right at a moment of a run over these lines: it holds the configuration and a record, which stands for the
 -- opening record o and the events kept so far, or for these and the one that is under way. The output lines pair with the
--- first lines, the events that they keep fit with margin, and none shows more events than the record has.
+-- first lines, the events that they keep fit closely, and none shows more events than the record has.
 pub record IsRight (c : Configuration) (o : MeterRecord) (lines : List (List ℕ)) (moment : Trace) (image : List ℕ) : Type 0 where
   pub journal : Journal
   pub pairs : Pairs (on_memory c) o 0 at_start lines (output_lines moment) journal
-  pub fits : AllFitWithMargin (settings_for c) o journal.kept
+  pub fits : AllFitClosely (settings_for c) o journal.kept
   pub held : MeterRecord
   pub side : Side
   pub holds : stored image ≡ Holds c held side

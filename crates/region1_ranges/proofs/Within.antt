@@ -1,6 +1,6 @@
 -- The ranges of the volume and of the enthalpy, from 1,100 to 4,000 kPa and from 0 to 180 °C. The volume
 -- is computed in one piece, the enthalpy in pieces of 3 °C, since its terms cancel.
-use Rattle.std.proofs.Common.{◌≡◌, ℕ, ◌+◌, ◌-◌, ◌*◌, ◌/◌, ◌^◌, ◌≤◌, min, arith, refl, lit<, lit≤, ℤ, pos, neg_ℤ, ◌*ℤ◌, ◌≤ℤ◌, Bool, true}
+use Rattle.std.proofs.Common.{◌≡◌, ℕ, ◌+◌, ◌-◌, ◌*◌, ◌/◌, ◌^◌, ◌≤◌, min, arith, refl, lit<, lit≤, ℤ, pos, negsuc, neg_ℤ, ◌+ℤ◌, ◌*ℤ◌, ◌≤ℤ◌, ◌<◌, Bool, true}
 use Rattle.std.proofs.lemmas.Int.{ints}
 use Rattle.std.proofs.lemmas.Bool.{and_parts, agree_below, agree_below_at}
 use Rattle.std.specs.Prelude.{◌&&◌}
@@ -51,8 +51,12 @@ Between-wider e l h x low high p = record {
 le_from : (a b : ℤ) → le_z a b ≡ true → a ≤ℤ b
 le_from a b h = grind (arith, ints)
 
-kelvin_above : (n : ℕ) → pos 1 ≤ℤ (kelvin (nanodegrees n)).num
-kelvin_above n = omega (arith, ints)
+pub kelvin_above : (lo hi : ℕ) (t : Fraction) → SpanHolds lo hi t → pos 1 ≤ℤ (kelvin t).num
+kelvin_above lo hi t s = above t.num t.den lo t.positive s.low.crossed
+  where
+    above : (z : ℤ) (d lo : ℕ) → 0 < d → (pos lo *ℤ pos d) ≤ℤ (z *ℤ pos 1000000000) → pos 1 ≤ℤ (z *ℤ pos 100 +ℤ pos 27315 *ℤ pos d)
+    above (pos n) d lo p h = omega (arith, ints, p)
+    above (negsuc n) d lo p h = absurd (omega (arith, ints, h))
 
 -- ---- the volume
 volume_ends : Ends
@@ -94,22 +98,25 @@ module _ (p : ℕ) (low : 1100 ≤ p) (high : p ≤ 4000) where
   nano_in : (lo hi n : ℕ) → lo ≤ n → n ≤ hi → SpanHolds lo hi (nanodegrees n)
   nano_in lo hi n h k = record { low = record { crossed = omega (arith, ints, h) }; high = record { crossed = omega (arith, ints, k) } }
 
-  volume_between : (n : ℕ) → n ≤ 180000000000 → Between volume_ends (volume_factor *ℚ joined_volume (x_of p) (y_of (nanodegrees n)) (u_of (nanodegrees n)) (r_of (nanodegrees n)))
-  unfolding volume_ends
-  volume_between n top =
-      let s = nano_in 0 180000000000 n (omega arith) top in
-      let q = q_between 0 180000000000 (omega arith) (lit≤ tt) (nanodegrees n) s in
-      let z = z_between 0 180000000000 (omega arith) (lit≤ tt) (nanodegrees n) s in
-      Between-times (of_fraction volume_factor) _ volume_factor _ (Between-fraction volume_factor)
-      (Between-plus _ _ _ _
-      (Between-plus (of_fraction row_13) _ row_13 _ (Between-fraction row_13)
-      (Between-times _ (u_ends 0 180000000000) _ (u_of (nanodegrees n)) (Between-sum pi_derivative_of x_ends (q_ends 0 180000000000) (z_ends 0 180000000000) (x_of p) (y_of (nanodegrees n)) volume_down x_between q z) (u_between 0 180000000000 (omega arith) (lit≤ tt) (nanodegrees n) s)))
-      (Between-times _ (r_ends 0 180000000000) _ (r_of (nanodegrees n)) (Between-sum pi_derivative_over_y_of x_ends (q_ends 0 180000000000) (z_ends 0 180000000000) (x_of p) (y_of (nanodegrees n)) volume_up x_between q z) (r_between 0 180000000000 (omega arith) (lit≤ tt) (nanodegrees n) s)))
+  module _ (t : Fraction) (s : SpanHolds 0 180000000000 t) where
+    volume_between : Between volume_ends (volume_factor *ℚ joined_volume (x_of p) (y_of t) (u_of t) (r_of t))
+    unfolding volume_ends
+    volume_between =
+        let q = q_between 0 180000000000 (omega arith) (lit≤ tt) t s in
+        let z = z_between 0 180000000000 (omega arith) (lit≤ tt) t s in
+        Between-times (of_fraction volume_factor) _ volume_factor _ (Between-fraction volume_factor)
+        (Between-plus _ _ _ _
+        (Between-plus (of_fraction row_13) _ row_13 _ (Between-fraction row_13)
+        (Between-times _ (u_ends 0 180000000000) _ (u_of t) (Between-sum pi_derivative_of x_ends (q_ends 0 180000000000) (z_ends 0 180000000000) (x_of p) (y_of t) volume_down x_between q z) (u_between 0 180000000000 (omega arith) (lit≤ tt) t s)))
+        (Between-times _ (r_ends 0 180000000000) _ (r_of t) (Between-sum pi_derivative_over_y_of x_ends (q_ends 0 180000000000) (z_ends 0 180000000000) (x_of p) (y_of t) volume_up x_between q z) (r_between 0 180000000000 (omega arith) (lit≤ tt) t s)))
+
+    pub volume_everywhere : Holds 56 (pos (95 * 2 ^ 56 / 100000)) (pos (118 * 2 ^ 56 / 100000)) (volume p t)
+    volume_everywhere =
+        Holds-same (volume_joined p t (kelvin_above 0 180000000000 t s))
+        (Between-wider volume_ends _ _ _ (le_from _ _ volume_least) (le_from _ _ volume_most) volume_between).holds
 
   pub volume_within : (n : ℕ) → n ≤ 180000000000 → Holds 56 (pos (95 * 2 ^ 56 / 100000)) (pos (118 * 2 ^ 56 / 100000)) (volume p (nanodegrees n))
-  volume_within n top =
-      Holds-same (volume_joined p (nanodegrees n) (kelvin_above n))
-      (Between-wider volume_ends _ _ _ (le_from _ _ volume_least) (le_from _ _ volume_most) (volume_between n top)).holds
+  volume_within n top = volume_everywhere (nanodegrees n) (nano_in 0 180000000000 n (omega arith) top)
 
 -- ---- the enthalpy
 first_of : ℕ → ℕ

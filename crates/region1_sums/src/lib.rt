@@ -6,3 +6,4 @@ mod sums;
 mod total;
 
 pub use sums::{down_sum, heat_sum, up_sum};
+pub use total::total as total_of;

@@ -45,11 +45,11 @@ slope_of p q r t l y c d k e Q h m apart above small enough =
     let near : y * (p * q) ≤ c * d = apart_by p q r t l y c d h m apart in
     le_of_mul-le-mul_right {m = y * k} {k = Q} (omega (arith, mul-le-mul_right k near, mul-le-mul_left (y * k) small, mul-le-mul_right d enough)) above
 
-floor_near : (z : ℤ) (D : ℕ) → 0 < D → z ≤ℤ ((floor_div z D *ℤ pos D) +ℤ pos D)
+pub floor_near : (z : ℤ) (D : ℕ) → 0 < D → z ≤ℤ ((floor_div z D *ℤ pos D) +ℤ pos D)
 floor_near (pos a) D h = omega (arith, ints, lt-div-mul-add {a = a} h)
 floor_near (negsuc a) D h = omega (arith, ints, div-mul-le_self a D)
 
-ceil_near : (z : ℤ) (D : ℕ) → 0 < D → (ceil_div z D *ℤ pos D) ≤ℤ (z +ℤ pos D)
+pub ceil_near : (z : ℤ) (D : ℕ) → 0 < D → (ceil_div z D *ℤ pos D) ≤ℤ (z +ℤ pos D)
 ceil_near z D h =
     let near : neg_ℤ z ≤ℤ ((floor_div (neg_ℤ z) D *ℤ pos D) +ℤ pos D) = floor_near (neg_ℤ z) D h in
     let back : neg_ℤ (floor_div (neg_ℤ z) D *ℤ pos D) ≤ℤ (z +ℤ pos D) = omega (arith, ints, near) in
@@ -114,7 +114,7 @@ pub record IsAt (b k n : ℕ) : Type 0 where
   pub k_above : 0 < k
   pub n_above : 0 < n
 
-same_inverse : (x : Fraction) (n d : ℕ) (d_above : 0 < d) (n_above : 0 < n) → x ≈ ratio n d d_above → inverse x ≈ ratio d n n_above
+pub same_inverse : (x : Fraction) (n d : ℕ) (d_above : 0 < d) (n_above : 0 < n) → x ≈ ratio n d d_above → inverse x ≈ ratio d n n_above
 same_inverse x n d d_above n_above h = at x.num x.den x.positive h.crossed
   where
     at : (a : ℤ) (b : ℕ) → 0 < b → a *ℤ pos d ≡ pos n *ℤ pos b → inverse_of a b ≈ ratio d n n_above
@@ -129,12 +129,12 @@ module _ (a b k n : ℕ) (above : 0 < b) (w : IsAt b k n) (kelvin_at : k ≡ 100
   pub u_is : u_of (ratio a b above) ≈ ratio k (138600 * b) (mul-pos (lit< tt) above)
   u_is = rw kelvin_at (record { crossed = ap pos (omega arith) })
 
-  tau_is : tau_of (ratio a b above) ≈ ratio (138600 * b) k w.k_above
+  pub tau_is : tau_of (ratio a b above) ≈ ratio (138600 * b) k w.k_above
   tau_is =
       same_trans (same_mul (same_refl (whole 1386)) (same_inverse (kelvin (ratio a b above)) k (100 * b) (mul-pos (lit< tt) above) w.k_above kelvin_is))
       (record { crossed = ap pos (omega arith) })
 
-  y_is : y_of (ratio a b above) ≈ ratio n (1000 * k) (mul-pos (lit< tt) w.k_above)
+  pub y_is : y_of (ratio a b above) ≈ ratio n (1000 * k) (mul-pos (lit< tt) w.k_above)
   y_is =
       let num : pos (138600 * b) *ℤ pos 1000 +ℤ (negsuc 1221 *ℤ pos k) ≡ pos n = omega (arith, ints, w.rest) in
       same_trans (same_add tau_is (same_refl (neg_ℚ (decimal (pos 1222) (minus 3)))))
@@ -207,20 +207,20 @@ nano_is : (n : ℕ) → n ≤ 180000000000 → IsAt 10000000 (273150000000 + n) 
 nano_is n h = record { rest = omega arith; k_above = omega arith; n_above = omega arith }
 
 module _ (lo hi : ℕ) (order : lo ≤ hi) (top : hi ≤ 180000000000) (t : Fraction) (s : SpanHolds lo hi t) where
-  t_is : t ≡ ratio (unsigned_abs t.num) t.den t.positive
+  pub t_is : t ≡ ratio (unsigned_abs t.num) t.den t.positive
   t_is = let z : ℤ → Fraction = λ z. record { num = z; den = t.den; positive = t.positive } in ap z (in_span lo hi t s).num
 
-  is_at : IsAt t.den (100 * unsigned_abs t.num + 27315 * t.den) (138600000 * t.den - 1222 * (100 * unsigned_abs t.num + 27315 * t.den))
+  pub is_at : IsAt t.den (100 * unsigned_abs t.num + 27315 * t.den) (138600000 * t.den - 1222 * (100 * unsigned_abs t.num + 27315 * t.den))
   is_at =
       let i = in_span lo hi t s in
       let small : hi * t.den ≤ 180000000000 * t.den = mul-le-mul_right t.den top in
       let under : unsigned_abs t.num ≤ 180 * t.den = omega (arith, i.high, small) in
       record { rest = omega (arith, under); k_above = omega (arith, t.positive); n_above = omega (arith, under, t.positive) }
 
-  from_low : Runs (273150000000 + lo) (1386000000000000 - 1222 * (273150000000 + lo)) 10000000 (100 * unsigned_abs t.num + 27315 * t.den) (138600000 * t.den - 1222 * (100 * unsigned_abs t.num + 27315 * t.den)) t.den
+  pub from_low : Runs (273150000000 + lo) (1386000000000000 - 1222 * (273150000000 + lo)) 10000000 (100 * unsigned_abs t.num + 27315 * t.den) (138600000 * t.den - 1222 * (100 * unsigned_abs t.num + 27315 * t.den)) t.den
   from_low = runs _ _ _ _ _ _ (nano_is lo (omega arith)).rest is_at.rest (omega (arith, (in_span lo hi t s).low))
 
-  to_high : Runs (100 * unsigned_abs t.num + 27315 * t.den) (138600000 * t.den - 1222 * (100 * unsigned_abs t.num + 27315 * t.den)) t.den (273150000000 + hi) (1386000000000000 - 1222 * (273150000000 + hi)) 10000000
+  pub to_high : Runs (100 * unsigned_abs t.num + 27315 * t.den) (138600000 * t.den - 1222 * (100 * unsigned_abs t.num + 27315 * t.den)) t.den (273150000000 + hi) (1386000000000000 - 1222 * (273150000000 + hi)) 10000000
   to_high = runs _ _ _ _ _ _ is_at.rest (nano_is hi top).rest (omega (arith, (in_span lo hi t s).high))
 
   pub u_holds : Holds 56 (quotient_floor 56 (pos (273150000000 + lo)) (pos 1386000000000)) (quotient_ceil 56 (pos (273150000000 + hi)) (pos 1386000000000)) (u_of t)

@@ -5,9 +5,9 @@ use Rattle.std.specs.Prelude.{IsTrue}
 use Rattle.std.proofs.lemmas.Bool.Decides.{nat_tests}
 use Rattle.metering_model.specs.Events.{Kept}
 use Rattle.metering_model.specs.Records.{MeterRecord, StandsFor, bound_in, energy_in}
-use Rattle.metering_model.specs.Integral.{AllFit, AllFitWithMargin, IsChoice, IsNear, Temps, counted_litres, exact_integral}
+use Rattle.metering_model.specs.Integral.{AllFit, AllFitClosely, IsChoice, IsNear, Temps, counted_litres, exact_integral}
 use Rattle.metering_model.proofs.Bounded.{HasNarrowCells, all_bounded, all_finer, narrow-steep}
-use Rattle.metering_model.proofs.Joined.{fit-of-margin}
+use Rattle.metering_model.proofs.Joined.{fit-of-closely, margin-of-closely}
 use Rattle.platinum_model.specs.Element.{nominal}
 use Rattle.config_model.specs.Configuration.{Configuration, is_sensor}
 use Rattle.memory_model.specs.Stored.{Side, Holds, stored}
@@ -26,7 +26,7 @@ is_kind ohm h = grind (arith, nat_tests)
 narrow : (ohm : ℕ) → is_sensor ohm ≡ true → HasNarrowCells (nominal (1000000 * ohm))
 narrow ohm h = narrow-steep (nominal (1000000 * ohm)) (nominal-steep (1000000 * ohm) (is_kind ohm h))
 
-module _ (c : Configuration) (o : MeterRecord) (image : List ℕ) (held : MeterRecord) (side : Side) (holds : stored image ≡ Holds c held side) (events : List Kept) (stands : StandsFor (settings_for c) o events held) (fits : AllFitWithMargin (settings_for c) o events) where
+module _ (c : Configuration) (o : MeterRecord) (image : List ℕ) (held : MeterRecord) (side : Side) (holds : stored image ≡ Holds c held side) (events : List Kept) (stands : StandsFor (settings_for c) o events held) (fits : AllFitClosely (settings_for c) o events) where
   gained : (held.register.energy_mj -ℤ o.register.energy_mj) ≡ energy_in events
   gained = let is : held.register.energy_mj ≡ o.register.energy_mj +ℤ energy_in events = ap (λ (m : MeterRecord). m.register.energy_mj) stands.is in omega (arith, ints)
 
@@ -37,7 +37,7 @@ module _ (c : Configuration) (o : MeterRecord) (image : List ℕ) (held : MeterR
   gained_bound = omega (arith, ints, bound)
 
   all_fit : AllFit (settings_for c) o events
-  all_fit = fit-of-margin (settings_for c) o events fits
+  all_fit = fit-of-closely (settings_for c) o events fits
 
   pub bounded : HoldsBounded c o image
   bounded = record { held = held; side = side; holds = holds; events = events; stands = stands; bounded = within } where
@@ -48,7 +48,7 @@ module _ (c : Configuration) (o : MeterRecord) (image : List ℕ) (held : MeterR
         let integral = exact_integral (settings_for c) o choice events in
         record {
           near = subst (λ e. IsNear e (pos held.register.bound_mj -ℤ pos o.register.bound_mj) integral) (sym gained) (subst (λ d. IsNear (energy_in events) d integral) (sym gained_bound) all.near);
-          finer = subst (λ e. IsNear e (pos (600 * counted_litres (settings_for c) o events)) integral) (sym gained) (all_finer (settings_for c) o choice events cells cells fits chosen);
+          finer = subst (λ e. IsNear e (pos (600 * counted_litres (settings_for c) o events)) integral) (sym gained) (all_finer (settings_for c) o choice events cells cells (margin-of-closely (settings_for c) o events fits) chosen);
           cap = omega (arith, bound, all.cap);
         }
 

@@ -9,12 +9,11 @@ use Rattle.trace_model.specs.Output.{output_lines}
 use Rattle.pairing_model.specs.Pairing.{NoneRefused}
 use Rattle.run_engine.specs.Ran.{Ran}
 use Rattle.run_engine.specs.declared.Ended.{Ended}
-use Rattle.run_engine.specs.declared.Ended.TheVariants.{Done, Line, Memory, Read, Write, Unformatted, Foreign, OutOfMemory, Cut}
+use Rattle.run_engine.specs.declared.Ended.TheVariants.{Done, Line, Memory, Read, Write, Unformatted, Foreign, Cut}
 
 -- the faults do not stand: of the source, the output, the memory and the power
-pub completes : (s : Setup) (o : MeterRecord) (script : List ℕ) (trace : Trace) (ended : Ended) → Ran s o script trace ended → ¬ (ended ≡ Read) → ¬ (ended ≡ Write) → ¬ (ended ≡ Memory) → ¬ (ended ≡ Cut) → NoneRefused s o (lines_of script) → (ended ≡ Done) ⊎ (ended ≡ OutOfMemory)
-completes s o script trace Done ran no_read no_write no_memory no_cut none = inl refl
-completes s o script trace OutOfMemory ran no_read no_write no_memory no_cut none = inr refl
+pub completes : (s : Setup) (o : MeterRecord) (script : List ℕ) (trace : Trace) (ended : Ended) → Ran s o script trace ended → ¬ (ended ≡ Read) → ¬ (ended ≡ Write) → ¬ (ended ≡ Memory) → ¬ (ended ≡ Cut) → NoneRefused s o (lines_of script) → ended ≡ Done
+completes s o script trace Done ran no_read no_write no_memory no_cut none = refl
 completes s o script trace Read ran no_read no_write no_memory no_cut none = absurd (no_read refl)
 completes s o script trace Write ran no_read no_write no_memory no_cut none = absurd (no_write refl)
 completes s o script trace Memory ran no_read no_write no_memory no_cut none = absurd (no_memory refl)

@@ -21,6 +21,7 @@ use Rattle.recovery_model.specs.Right.{IsRight}
 use Rattle.meter_board.specs.Puts.{PutsFront}
 use Rattle.register_store.specs.Commits as commits
 use Rattle.register_store.specs.Works.{is_store, is_sync}
+use Rattle.event_script.specs.Next.{IsFirst}
 use Rattle.run_engine.specs.declared.Ended.TheVariants.{Write}
 use Rattle.run_engine.specs.Going.{Between, Going}
 use Rattle.run_engine.specs.Run.{IsSound, RanOnMemory}
@@ -37,7 +38,7 @@ pub record IsHeldFor (c : Configuration) (o : MeterRecord) (script : List ℕ) (
   pub shows : number_shown text ≡ Some new.seq
   pub small : new.seq < 10 ^ 64
 
-module _ (c : Configuration) (o : MeterRecord) (script rest : List ℕ) (n : ℕ) (j : Journal) (r : MeterRecord) (t : Trace) (g : Going (on_memory c) o script rest n j r t) (line after : List ℕ) (first : lines_of rest ≡ line ∷ lines_of after)
+module _ (c : Configuration) (o : MeterRecord) (script rest : List ℕ) (n : ℕ) (j : Journal) (r : MeterRecord) (t : Trace) (g : Going (on_memory c) o script rest n j r t) (line after : List ℕ) (first : IsFirst rest line after)
     (u : Trace) (es : List Entry) (text : List ℕ) (later : Journal) (new : MeterRecord) (a : Answered (on_memory c) o n j line es text later new) (at : Reached t u es) (side : Side) (h : IsHeldFor c o script t u text new side) where
   going : Going (on_memory c) o script after (n + 1) later new (u ▷ Put text)
   going = goes_on (on_memory c) o script rest n j r t g line after first u es text later new a at

@@ -25,32 +25,34 @@ use Rattle.mbus_records.specs.declared.slave.Slave.{Slave}
 use Rattle.register_store.specs.declared.side.Side.{Side}
 use Rattle.register_store.specs.Recovered.{side_view}
 use Rattle.run_engine.specs.declared.Ended.{Ended}
-use Rattle.run_engine.specs.declared.Ended.TheVariants.{Line}
+use Rattle.run_engine.specs.declared.Ended.TheVariants.{Done, Line, Memory, Read, Write, Unformatted, Foreign, Cut}
 use Rattle.run_engine.specs.declared.station.Station.{Station}
-use Rattle.run_engine.specs.Going.{IsReady, Leads}
+use Rattle.run_engine.specs.Going.{Between, IsReady, Leads}
 use Rattle.run_engine.specs.Run.{RanOnMemory}
-use Rattle.run_engine.specs.Shows.{ShowsOnBus, ShowsReply}
-use Rattle.run_engine.specs.Steps.{StepGives}
-use Rattle.run_engine.specs.Takes.{SaysAt, TakesLine}
+use Rattle.run_engine.specs.Shows.{ShowGives, ShowsOnBus, ShowsReply}
+use Rattle.run_engine.specs.Steps.{HoldGives}
+use Rattle.event_script.specs.Next.{IsFirst, SaysAt}
+use Rattle.event_script.proofs.Says.{decides}
+use Rattle.run_engine.specs.Takes.{TakesLine}
 use Rattle.run_engine.proofs.Nothing.{few_litres, settings_same}
 use Rattle.run_engine.proofs.Readouts.{bytes_end, bytes_go_on, message_ends, message_goes_on, head_journal}
 use Rattle.run_engine.proofs.Runs.{next_journal, printable}
-use Rattle.run_engine.proofs.RunsOnMemory.{refused_on, step_ends, step_goes_on}
+use Rattle.run_engine.proofs.RunsOnMemory.{event_held, event_unshown, hold_ends, refused_on}
 
-module _ (c : Configuration) (o : records.MeterRecord) (script rest : List ℕ) (n : ℕ) (station : Station) (reads : List ℕ) (t : Trace) (ready : IsReady c o script rest n station reads t) (line after : List ℕ) (first : lines_of rest ≡ line ∷ lines_of after) (is : c ≡ config_view station.meter.config) where
+module _ (c : Configuration) (o : records.MeterRecord) (script rest : List ℕ) (n : ℕ) (station : Station) (reads : List ℕ) (t : Trace) (ready : IsReady c o script rest n station reads t) (line after : List ℕ) (first : IsFirst rest line after) (is : c ≡ config_view station.meter.config) where
   abbrev r : records.MeterRecord
   r = record_view station.meter.record
 
   module _ (event : events.Event) (says : SaysAt n line (Metering event)) where
     pub event_refused : (kind : LineFault) → event_fault r event ≡ Some (fault_view kind) → RanOnMemory c o script t (Line (n + 1) kind)
-    event_refused kind fault = refused_on c o script rest n ready.journal r (side_view station.side) reads t ready.between line after first kind (says.decides Run r ∙ fault)
+    event_refused kind fault = refused_on c o script rest n ready.journal r (side_view station.side) reads t ready.between line after first kind (decides says Run r ∙ fault)
 
     module _ (meter : Meter) (same : meter.config ≡ station.meter.config) (no_fault : event_fault r event ≡ None) (takes : TakesEvent (settings_of station.meter.config) r event (record_view meter.record)) where
       settings : settings_of station.meter.config ≡ settings_for c
       settings = settings_same station.meter.config ∙ ap settings_for (sym is)
 
       line_takes : TakesLine Run (settings_for c) n r line (record_view meter.record)
-      line_takes = record { event = event; taken = says.decides Run r ∙ no_fault; says = says.says; takes = subst (λ s. TakesEvent s r event (record_view meter.record)) settings takes }
+      line_takes = record { event = event; taken = decides says Run r ∙ no_fault; says = says.says; takes = subst (λ s. TakesEvent s r event (record_view meter.record)) settings takes }
 
       text : ok_text (settings_of meter.config) (record_view meter.record) ≡ ok_text (settings_for c) (record_view meter.record)
       text = ap (λ (s : Settings). ok_text s (record_view meter.record)) (ap settings_of same ∙ settings)
@@ -58,18 +60,30 @@ module _ (c : Configuration) (o : records.MeterRecord) (script rest : List ℕ) 
       can_print : IsPrintable (settings_for c) (record_view meter.record)
       can_print = subst (λ (k : Configuration). IsPrintable (settings_for k) (record_view meter.record)) (sym is) (printable (settings_for (config_view station.meter.config)) meter.record (few_litres station.meter.config.per_pulse station.meter.config.per_pulse_in_range))
 
-      pub event_ends : (t' : Trace) (reads' : List ℕ) (ended : Ended) → StepGives c (side_view station.side) r (record_view meter.record) (ok_text (settings_of meter.config) (record_view meter.record)) t (Err ended) t' reads' → RanOnMemory c o script t' ended
-      event_ends t' reads' ended gives =
-          step_ends c o script rest n ready.journal r (side_view station.side) reads t ready.between line after first (record_view meter.record) line_takes (omega (arith, station.meter.record.seq_in_range)) can_print _ text t' reads' ended gives
+      pub hold_leads : (u : Trace) (reads' : List ℕ) (ended : Ended) → HoldGives c (side_view station.side) r (record_view meter.record) t (Err ended) u reads' → RanOnMemory c o script u ended
+      hold_leads = hold_ends c o script rest n ready.journal r (side_view station.side) reads t ready.between line after first (record_view meter.record) line_takes (omega (arith, station.meter.record.seq_in_range)) can_print
 
-      pub event_goes_on : (t' : Trace) (reads' : List ℕ) (turned : Side) → StepGives c (side_view station.side) r (record_view meter.record) (ok_text (settings_of meter.config) (record_view meter.record)) t (Ok turned) t' reads' → IsImage t' reads'
-          → IsReady c o script after (n + 1) (record station { meter = meter; side = turned }) reads' t'
-      event_goes_on t' reads' turned gives of = record {
-        journal = next_journal (on_memory c) o script rest n ready.journal r t ready.between.going line after first (record_view meter.record) line_takes;
-        between = step_goes_on c o script rest n ready.journal r (side_view station.side) reads t ready.between line after first (record_view meter.record) line_takes (omega (arith, station.meter.record.seq_in_range)) can_print _ text t' reads' turned gives of;
-        head = ready.head;
-        bus = ready.bus;
-      }
+      module _ (u : Trace) (reads' : List ℕ) (turned : Side) (held : HoldGives c (side_view station.side) r (record_view meter.record) t (Ok turned) u reads') (t' : Trace) (after_reads : List ℕ) (same_reads : after_reads ≡ reads') (of : IsImage t' after_reads) where
+        -- where the record was held on this side, and then its line went out, or not whole
+        pub show_leads : {T : Type 0} (result : Result T Ended) → ShowGives u (ok_text (settings_of meter.config) (record_view meter.record)) result t' → Leads c o script after (n + 1) (record station { meter = meter; side = turned }) after_reads t' result
+        show_leads (Ok x) shows = record {
+          journal = next_journal (on_memory c) o script rest n ready.journal r t ready.between.going line after first (record_view meter.record) line_takes;
+          between = subst (λ (k : List ℕ). Between c o script after (n + 1) (next_journal (on_memory c) o script rest n ready.journal r t ready.between.going line after first (record_view meter.record) line_takes) (record_view meter.record) (side_view turned) k t') (sym same_reads)
+              (subst (Between c o script after (n + 1) (next_journal (on_memory c) o script rest n ready.journal r t ready.between.going line after first (record_view meter.record) line_takes) (record_view meter.record) (side_view turned) reads') (sym shows)
+              (event_held c o script rest n ready.journal r (side_view station.side) reads t ready.between line after first (record_view meter.record) line_takes (omega (arith, station.meter.record.seq_in_range)) can_print u reads' turned held _ text
+              (subst (λ (v : Trace). IsImage v reads') shows (subst (IsImage t') same_reads of))));
+          head = ready.head;
+          bus = ready.bus;
+        }
+        show_leads (Err Write) shows =
+            event_unshown c o script rest n ready.journal r (side_view station.side) reads t ready.between line after first (record_view meter.record) line_takes (omega (arith, station.meter.record.seq_in_range)) can_print u reads' turned held _ text t' shows
+        show_leads (Err Memory) shows = absurd shows
+        show_leads (Err Cut) shows = absurd shows
+        show_leads (Err Done) shows = absurd shows
+        show_leads (Err (Line m kind)) shows = absurd shows
+        show_leads (Err Read) shows = absurd shows
+        show_leads (Err (Unformatted byte)) shows = absurd shows
+        show_leads (Err (Foreign at)) shows = absurd shows
 
   module _ (t' : Trace) (reads' : List ℕ) (same : reads' ≡ reads) (of : IsImage t' reads') where
     pub message_leads : {T : Type 0} (message : List ℕ) (optical : Optical) (result : Result T Ended) → SaysAt n line (Opt message) → Heard (config_view station.meter.config) (Some message) optical

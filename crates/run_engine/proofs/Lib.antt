@@ -1,6 +1,5 @@
 pub mod Moments
 pub mod Runs
-pub mod Whole
 pub mod DryRuns
 pub mod Complete
 pub mod Nothing
@@ -9,5 +8,6 @@ pub mod GoesOut
 pub mod RunsOnMemory
 pub mod Readouts
 pub mod Leads
-pub mod WholeOnMemory
+pub mod Unanswered
 pub mod Bounded
+pub mod Reading

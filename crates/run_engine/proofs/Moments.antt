@@ -2,7 +2,7 @@
 use Rattle.std.proofs.Common.{◌≡◌, Bool, true, false, cond, inl, inr, List, [], ◌∷◌, ◌++◌, append_assoc, ap, sym, subst, ◌∙◌}
 use Rattle.std.proofs.lemmas.List.{append-nil}
 use Rattle.metering_model.specs.Records.{MeterRecord}
-use Rattle.metering_model.specs.Integral.{AllFitWithMargin}
+use Rattle.metering_model.specs.Integral.{AllFitClosely}
 use Rattle.metering_model.proofs.Joined.{fit-front}
 use Rattle.script_model.specs.Lines.{lines_of}
 use Rattle.trace_model.specs.Trace.{Trace, Start, ◌▷◌}
@@ -28,9 +28,9 @@ outputs-front p (t ▷ e) (inr earlier) = by_kind (is_output_line e) (outputs-fr
       (found.0 ++ last, ap (λ outputs. outputs ++ last) found.1 ∙ append_assoc (output_lines p) found.0 last)
 
 -- what pairs and fits at the end did so at each moment
-pub moments_of : (s : Setup) (o : MeterRecord) (script : List ℕ) (t : Trace) (j : Journal) → Pairs s o 0 at_start (lines_of script) (output_lines t) j → AllFitWithMargin (settings_in s) o j.kept
+pub moments_of : (s : Setup) (o : MeterRecord) (script : List ℕ) (t : Trace) (j : Journal) → Pairs s o 0 at_start (lines_of script) (output_lines t) j → AllFitClosely (settings_in s) o j.kept
     → (p : Trace) → IsPrefix p t → Metered s o script p
 moments_of s o script t j pairs fits p is =
     let outputs = outputs-front p t is in
     let front = pairs-front s o 0 at_start (lines_of script) (output_lines p) outputs.0 j (subst (λ (all : List OutputLine). Pairs s o 0 at_start (lines_of script) all j) outputs.1 pairs) in
-    record { journal = front.journal; pairs = front.pairs; fits = fit-front (settings_in s) o front.journal.kept front.after (subst (AllFitWithMargin (settings_in s) o) front.is fits) }
+    record { journal = front.journal; pairs = front.pairs; fits = fit-front (settings_in s) o front.journal.kept front.after (subst (AllFitClosely (settings_in s) o) front.is fits) }

@@ -7,7 +7,7 @@ use Rattle.std.proofs.lemmas.List.Elements.{All-cons, All-head, All-tail}
 use Rattle.std.proofs.lemmas.List.Sums.{sum_by-append}
 use Rattle.metering_model.specs.Events.{Event}
 use Rattle.metering_model.specs.Records.{MeterRecord, StandsFor}
-use Rattle.metering_model.specs.Integral.{AllFitWithMargin}
+use Rattle.metering_model.specs.Integral.{AllFitClosely}
 use Rattle.script_model.specs.Lines.{lines_of}
 use Rattle.script_model.specs.Grammar.{Metering}
 use Rattle.trace_model.specs.Trace.{Entry, Store, Sync, Missed, Put, Arm, Cut, Trace, ◌▷◌}
@@ -28,6 +28,7 @@ use Rattle.register_store.specs.Commits as commits
 use Rattle.register_store.specs.Commits.{HoldsEither, other}
 use Rattle.register_store.specs.Works.{is_store, is_sync, is_forced_cut, is_other}
 use Rattle.register_store.proofs.MemoryAlone.{MemoryAlone, FrontAlone, MemoryStretch, front_counts, memory_alone, no_line, with_entries}
+use Rattle.event_script.specs.Next.{IsFirst}
 use Rattle.run_engine.specs.Run.{IsSound}
 use Rattle.run_engine.specs.Going.{Between, Going}
 use Rattle.run_engine.specs.Steps.{Commits}
@@ -69,7 +70,7 @@ module _ (c : Configuration) (o : MeterRecord) (script : List ℕ) where
 
   -- ---- what is right at a moment p
 
-  module _ (p : Trace) (image : List ℕ) (j : Journal) (held : MeterRecord) (side : Side) (pairs : Pairs (on_memory c) o 0 at_start (lines_of script) (output_lines p) j) (fits : AllFitWithMargin (settings_for c) o j.kept) (small : held.seq < 10 ^ 64)
+  module _ (p : Trace) (image : List ℕ) (j : Journal) (held : MeterRecord) (side : Side) (pairs : Pairs (on_memory c) o 0 at_start (lines_of script) (output_lines p) j) (fits : AllFitClosely (settings_for c) o j.kept) (small : held.seq < 10 ^ 64)
       (holds : commits.StandsFor (Holds c held side) image) where
     pub kept_right : StandsFor (settings_for c) o j.kept held → IsRight c o (lines_of script) p image
     kept_right stands =
@@ -116,7 +117,7 @@ module _ (c : Configuration) (o : MeterRecord) (script : List ℕ) where
 
   -- ---- one event
 
-  module _ (rest : List ℕ) (n : ℕ) (j : Journal) (r : MeterRecord) (side : Side) (reads : List ℕ) (t : Trace) (b : Between c o script rest n j r side reads t) (line after : List ℕ) (first : lines_of rest ≡ line ∷ lines_of after) (new : MeterRecord) (takes : TakesLine Run (settings_for c) n r line new)
+  module _ (rest : List ℕ) (n : ℕ) (j : Journal) (r : MeterRecord) (side : Side) (reads : List ℕ) (t : Trace) (b : Between c o script rest n j r side reads t) (line after : List ℕ) (first : IsFirst rest line after) (new : MeterRecord) (takes : TakesLine Run (settings_for c) n r line new)
       (old_small : r.seq < 10 ^ 64) (small : new.seq < 10 ^ 64) where
     abbrev pub g : Going (on_memory c) o script rest n j r t
     g = b.going

@@ -26,16 +26,17 @@ use Rattle.mbus_records.specs.State.{IsAfter}
 use Rattle.mbus_records.specs.declared.slave.Slave.{Slave}
 use Rattle.register_store.specs.Commits as commits
 use Rattle.run_engine.specs.declared.Ended.{Ended}
-use Rattle.run_engine.specs.declared.Ended.TheVariants.{Done, Line, Memory, Read, Write, Unformatted, Foreign, OutOfMemory, Cut}
+use Rattle.run_engine.specs.declared.Ended.TheVariants.{Done, Line, Memory, Read, Write, Unformatted, Foreign, Cut}
 use Rattle.run_engine.specs.Going.{Between}
 use Rattle.run_engine.specs.Run.{RanOnMemory}
 use Rattle.run_engine.specs.Shows.{RepliesOnBus, ShowGives, ShowsOnBus, ShowsReply}
-use Rattle.run_engine.specs.Takes.{SaysAt}
+use Rattle.event_script.specs.Next.{IsFirst, SaysAt}
+use Rattle.event_script.proofs.Says.{decides}
 use Rattle.run_engine.proofs.Runs.{Answered, Reached, at_once}
 use Rattle.run_engine.proofs.OnMemory.{kept_right}
 use Rattle.run_engine.proofs.GoesOut.{IsHeldFor, between_next, put_failed}
 
-module _ (c : Configuration) (o : MeterRecord) (script rest : List ℕ) (n : ℕ) (j : Journal) (r : MeterRecord) (side : Side) (reads : List ℕ) (t : Trace) (b : Between c o script rest n j r side reads t) (line after : List ℕ) (first : lines_of rest ≡ line ∷ lines_of after) (small : r.seq < 10 ^ 64) where
+module _ (c : Configuration) (o : MeterRecord) (script rest : List ℕ) (n : ℕ) (j : Journal) (r : MeterRecord) (side : Side) (reads : List ℕ) (t : Trace) (b : Between c o script rest n j r side reads t) (line after : List ℕ) (first : IsFirst rest line after) (small : r.seq < 10 ^ 64) where
   -- r is the record in force
   is_in_force : r ≡ in_force (on_memory c) o j
   is_in_force = b.going.in_force.is
@@ -67,7 +68,6 @@ module _ (c : Configuration) (o : MeterRecord) (script rest : List ℕ) (n : ℕ
     shown_ends T t' Done gives = absurd gives
     shown_ends T t' (Line m kind) gives = absurd gives
     shown_ends T t' Read gives = absurd gives
-    shown_ends T t' OutOfMemory gives = absurd gives
     shown_ends T t' (Unformatted byte) gives = absurd gives
     shown_ends T t' (Foreign at) gives = absurd gives
 
@@ -80,7 +80,7 @@ module _ (c : Configuration) (o : MeterRecord) (script rest : List ℕ) (n : ℕ
     message_answered : (reply : Option (List ℕ)) → optical.Replies c r j.last_message message reply → Answered (on_memory c) o n j line [] (opt_text r reply) head_journal r
     message_answered reply replies = record {
       answer = record {
-        taken = says.decides Run (in_force (on_memory c) o j);
+        taken = decides says Run (in_force (on_memory c) o j);
         said = Opt message;
         says = says.says;
         reply = record {
@@ -112,7 +112,7 @@ module _ (c : Configuration) (o : MeterRecord) (script rest : List ℕ) (n : ℕ
         → Answered (on_memory c) o n j line [] (mbus_text r reply) (record j { frames = j.frames ++ record { frame = frame; in_force = r } ∷ [] }) r
     frame_answered frame reply spells is = record {
       answer = record {
-        taken = says.decides Run (in_force (on_memory c) o j);
+        taken = decides says Run (in_force (on_memory c) o j);
         said = Mbus bytes;
         says = says.says;
         reply = inl (record {
@@ -131,7 +131,7 @@ module _ (c : Configuration) (o : MeterRecord) (script rest : List ℕ) (n : ℕ
     ignored : (reply : Option (List ℕ)) → ((frame : Frame) → ¬ (Spells frame bytes)) → reply ≡ None → Answered (on_memory c) o n j line [] (mbus_text r reply) j r
     ignored reply no_frame is = record {
       answer = record {
-        taken = says.decides Run (in_force (on_memory c) o j);
+        taken = decides says Run (in_force (on_memory c) o j);
         said = Mbus bytes;
         says = says.says;
         reply = inr (record { no_frame = no_frame; hears = refl; shows = ap (mbus_text r) is ∙ ap (λ (m : MeterRecord). mbus_text m None) is_in_force });

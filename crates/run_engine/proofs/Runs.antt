@@ -9,9 +9,10 @@ use Rattle.metering_model.specs.Settings.{Settings}
 use Rattle.metering_model.specs.Counting.{counted_by}
 use Rattle.metering_model.specs.Records.{StandsFor, record_after}
 use Rattle.metering_model.specs.Records as records
-use Rattle.metering_model.specs.Integral.{AddsBy, AllFitWithMargin, FitsWithMargin}
+use Rattle.metering_model.specs.Integral.{AddsBy, AllFitClosely, FitsClosely}
 use Rattle.metering_model.proofs.Joined.{fit-more}
-use Rattle.script_model.specs.Lines.{lines_of}
+use Rattle.script_model.specs.Lines.{after_line, lines_of}
+use Rattle.script_model.proofs.After.{after_lines-next, lines_of-after_lines}
 use Rattle.script_model.specs.Grammar.{Metering}
 use Rattle.trace_model.specs.Trace.{Entry, Put, Trace, ◌▷◌, base_of}
 use Rattle.trace_model.specs.Output.{OutputLine, PutsAlone, ends_line, output_lines, open_segment}
@@ -34,6 +35,7 @@ use Rattle.run_engine.proofs.Moments.{moments_of}
 use Rattle.run_engine.specs.Going.{Going}
 use Rattle.run_engine.specs.Ran.{Ran, EndsAt}
 use Rattle.run_engine.specs.Takes.{TakesLine}
+use Rattle.event_script.specs.Next.{IsFirst}
 use Rattle.run_engine.specs.declared.Ended.{Ended}
 use Rattle.run_engine.specs.declared.Ended.TheVariants.{Done, Line, Write}
 
@@ -45,7 +47,7 @@ pub record Reached (t u : Trace) (es : List Entry) : Type 0 where
 -- the line after n lines has this text as its answer; from then on this is the journal, and new the record in force
 pub record Answered (s : Setup) (o : records.MeterRecord) (n : ℕ) (j : Journal) (line : List ℕ) (es : List Entry) (text : List ℕ) (later : Journal) (new : records.MeterRecord) : Type 0 where
   pub answer : Answers s o n j line (record { segment = es; text = text }) later
-  pub fits : AllFitWithMargin (settings_in s) o later.kept
+  pub fits : AllFitClosely (settings_in s) o later.kept
   pub in_force : StandsFor (settings_in s) o later.kept new
   pub one_line : IsOneLine text
 
@@ -55,30 +57,28 @@ at_drop [] (suc n) x ys e = absurd cc
 at_drop (z ∷ zs) zero x ys e = let same : z ≡ x = cc in ap Some same
 at_drop (z ∷ zs) (suc n) x ys e = at_drop zs n x ys e
 
-drop_more : {X : Type 0} (xs : List X) (n : ℕ) (x : X) (ys : List X) → drop n xs ≡ x ∷ ys → drop (n + 1) xs ≡ ys
-drop_more [] zero x ys e = absurd cc
-drop_more [] (suc n) x ys e = absurd cc
-drop_more (z ∷ zs) zero x ys e = cc
-drop_more (z ∷ zs) (suc n) x ys e = rw suc-add (drop_more zs n x ys e)
-
 module _ (s : Setup) (o : records.MeterRecord) (script : List ℕ) where
   -- from an end of the last segment
-  pub ran_to : (j : Journal) (t : Trace) (ended : Ended) → Pairs s o 0 at_start (lines_of script) (output_lines t) j → AllFitWithMargin (settings_in s) o j.kept → EndsAt s o (lines_of script) (output_lines t) (open_segment t) j ended → Ran s o script t ended
+  pub ran_to : (j : Journal) (t : Trace) (ended : Ended) → Pairs s o 0 at_start (lines_of script) (output_lines t) j → AllFitClosely (settings_in s) o j.kept → EndsAt s o (lines_of script) (output_lines t) (open_segment t) j ended → Ran s o script t ended
   ran_to j t ended pairs fits ends = record { journal = j; pairs = pairs; fits = fits; ends = ends; moments = moments_of s o script t j pairs fits }
 
   module _ (rest : List ℕ) (n : ℕ) (j : Journal) (r : records.MeterRecord) (t : Trace) (g : Going s o script rest n j r t) where
+    -- the lines that have no answer yet
+    next_lines : drop n (lines_of script) ≡ lines_of rest
+    next_lines = sym (lines_of-after_lines n script) ∙ ap lines_of g.behind
+
     pub done : rest ≡ [] → Ran s o script t Done
     done empty = ran_to j t Done g.pairs g.fits
-        (let none : drop n (lines_of script) ≡ [] = g.left ∙ ap lines_of empty in omega (arith, length-drop n (lines_of script), ap length none, g.count, pairs-length _ _ _ _ _ _ _ g.pairs), g.nothing)
+        (let none : drop n (lines_of script) ≡ [] = next_lines ∙ ap lines_of empty in omega (arith, length-drop n (lines_of script), ap length none, g.count, pairs-length _ _ _ _ _ _ _ g.pairs), g.nothing)
 
     -- nothing went out for the next line
     pub stopped : Ran s o script t Write
     stopped = ran_to j t Write g.pairs g.fits (inl g.nothing)
 
-    module _ (line after : List ℕ) (first : lines_of rest ≡ line ∷ lines_of after) where
+    module _ (line after : List ℕ) (first : IsFirst rest line after) where
       -- the next line, as the place of the lines that were answered has it
       next_place : drop (length (output_lines t)) (lines_of script) ≡ line ∷ lines_of after
-      next_place = ap (λ m. drop m (lines_of script)) g.count ∙ g.left ∙ first
+      next_place = ap (λ m. drop m (lines_of script)) g.count ∙ next_lines ∙ first.lines
 
       pub line_at : slice_get (lines_of script) (length (output_lines t)) ≡ Some line
       line_at = at_drop (lines_of script) (length (output_lines t)) line (lines_of after) next_place
@@ -116,7 +116,7 @@ module _ (s : Setup) (o : records.MeterRecord) (script : List ℕ) where
               fits = a.fits;
               count = ap length all_lines ∙ length-append (output_lines t) (answered ∷ []) ∙ ap (λ m. m + 1) g.count;
               nothing = open_segment-line u text a.one_line.ends;
-              left = drop_more (lines_of script) n line (lines_of after) (g.left ∙ first);
+              behind = after_lines-next n script ∙ ap after_line g.behind ∙ sym first.after;
               in_force = a.in_force;
             }
 
@@ -157,9 +157,9 @@ module _ (s : Setup) (o : records.MeterRecord) (script : List ℕ) where
         pub next_stands : StandsFor (settings_in s) o (j.kept ++ next_kept ∷ []) new
         next_stands = takes.takes.stands o j.kept g.in_force
 
-        pub next_fits : AllFitWithMargin (settings_in s) o (j.kept ++ next_kept ∷ [])
+        pub next_fits : AllFitClosely (settings_in s) o (j.kept ++ next_kept ∷ [])
         next_fits = fit-more (settings_in s) o j.kept next_kept g.fits
-            (subst (λ (m : records.MeterRecord). AddsBy (FitsWithMargin (settings_in s)) (counted_by (settings_in s) m.samples takes.event) takes.takes.energy_mj takes.takes.bound_mj) g.in_force.is takes.takes.fits)
+            (subst (λ (m : records.MeterRecord). AddsBy (FitsClosely (settings_in s)) (counted_by (settings_in s) m.samples takes.event) takes.takes.energy_mj takes.takes.bound_mj) g.in_force.is takes.takes.fits)
 
         next_taken : fault_of s.command (in_force s o j) n line ≡ None
         next_taken = subst (λ m. fault_of s.command m n line ≡ None) g.in_force.is takes.taken

@@ -32,12 +32,13 @@ use Rattle.register_store.specs.declared.side.Side as sides
 use Rattle.register_store.specs.Recovered.{side_view}
 use Rattle.register_store.specs.Works.{is_forced_cut, is_other}
 use Rattle.register_store.proofs.MemoryAlone.{MemoryStretch}
+use Rattle.event_script.specs.Next.{IsFirst}
 use Rattle.run_engine.specs.declared.Ended.{Ended}
-use Rattle.run_engine.specs.declared.Ended.TheVariants.{Done, Line, Memory, Read, Write, Unformatted, Foreign, OutOfMemory, Cut as WasCut}
+use Rattle.run_engine.specs.declared.Ended.TheVariants.{Done, Line, Memory, Read, Write, Unformatted, Foreign, Cut as WasCut}
 use Rattle.run_engine.specs.Going.{Between}
 use Rattle.run_engine.specs.Ran.{StopsAtCut, StopsInEvent}
 use Rattle.run_engine.specs.Run.{IsSound, RanOnMemory}
-use Rattle.run_engine.specs.Steps.{Commits, Committed, StepGives}
+use Rattle.run_engine.specs.Steps.{Commits, HoldGives}
 use Rattle.run_engine.specs.Takes.{TakesLine}
 use Rattle.run_engine.proofs.Nothing.{stands_nothing}
 use Rattle.run_engine.proofs.Runs.{Answered, done, event_answered, next_journal, ran_to, refused}
@@ -48,7 +49,7 @@ module _ (c : Configuration) (o : MeterRecord) (script : List ℕ) where
   -- before the first line
   start : (base reads : List ℕ) (side : Side) → IsImage (Start base) reads → commits.StandsFor (Holds c o side) reads → length o.months ≤ 24 → o.seq < 10 ^ 64 → Between c o script script 0 at_start o side reads (Start base)
   start base reads side of holds few small = record {
-    going = record { pairs = refl; fits = tt; count = refl; nothing = refl; left = refl; in_force = stands_nothing (settings_for c) o few };
+    going = record { pairs = refl; fits = tt; count = refl; nothing = refl; behind = refl; in_force = stands_nothing (settings_for c) o few };
     settled = refl;
     possible = of;
     holds = holds;
@@ -69,7 +70,7 @@ module _ (c : Configuration) (o : MeterRecord) (script : List ℕ) where
     pub done_on : rest ≡ [] → RanOnMemory c o script t Done
     done_on empty = record { ran = done (on_memory c) o script rest n j r t b.going empty; sound = b.sound; held = between_holds c o script rest n j r side reads t b }
 
-    module _ (line after : List ℕ) (first : lines_of rest ≡ line ∷ lines_of after) where
+    module _ (line after : List ℕ) (first : IsFirst rest line after) where
       pub refused_on : (kind : LineFault) → fault_of Run r n line ≡ Some (fault_view kind) → RanOnMemory c o script t (Line (n + 1) kind)
       refused_on kind fault = record {
         ran = refused (on_memory c) o script rest n j r t b.going line after first kind fault;
@@ -125,48 +126,44 @@ module _ (c : Configuration) (o : MeterRecord) (script : List ℕ) where
                   let own_front = all_front (λ (e : Entry). is_other e ≡ false) found.0 (Cut true reads' ∷ []) (subst (All (λ (e : Entry). is_other e ≡ false)) found.1 own) in
                   record { before = found.0; image = reads'; is = found.1; stops = stops found.0 (λ event. allowed found.0 event own_front (omega (arith, one, whole))) }
 
+        -- the memory doesn't come to hold the new record
+        pub hold_ends : (u : Trace) (reads' : List ℕ) (ended : Ended) → HoldGives c side r new t (Err ended) u reads' → RanOnMemory c o script u ended
+        hold_ends u reads' Memory gives = memory_failed u gives
+        hold_ends u reads' WasCut gives = power_cut u reads' gives.0 gives.1
+        hold_ends u reads' Write gives = absurd gives
+        hold_ends u reads' Done gives = absurd gives
+        hold_ends u reads' (Line m kind) gives = absurd gives
+        hold_ends u reads' Read gives = absurd gives
+        hold_ends u reads' (Unformatted byte) gives = absurd gives
+        hold_ends u reads' (Foreign at) gives = absurd gives
+
         -- the memory holds the new record, and then its line goes out
-        module _ (u : Trace) (text : List ℕ) (committed : Committed c side r new t u) (is : text ≡ ok_text (settings_for c) new) where
-          answered : Answered (on_memory c) o n j line (stretch c o script rest n j r side reads t b line after first new takes old_small printable.seq 0 u committed.commits).entries text (next_journal (on_memory c) o script rest n j r t b.going line after first new takes) new
-          answered = event_answered (on_memory c) o script rest n j r t b.going line after first new takes
-              (stretch c o script rest n j r side reads t b line after first new takes old_small printable.seq 0 u committed.commits).entries text
-              (uncut c o script rest n j r side reads t b line after first new takes old_small printable.seq u committed.commits) is printable
+        module _ (u : Trace) (reads' : List ℕ) (turned : sides.Side) (gives : HoldGives c side r new t (Ok turned) u reads') (text : List ℕ) (is : text ≡ ok_text (settings_for c) new) where
+          abbrev entries : List Entry
+          entries = (stretch c o script rest n j r side reads t b line after first new takes old_small printable.seq 0 u gives.0.commits).entries
+
+          abbrev later : Journal
+          later = next_journal (on_memory c) o script rest n j r t b.going line after first new takes
+
+          answered : Answered (on_memory c) o n j line entries text later new
+          answered = event_answered (on_memory c) o script rest n j r t b.going line after first new takes entries text
+              (uncut c o script rest n j r side reads t b line after first new takes old_small printable.seq u gives.0.commits) is printable
 
           held_for : IsHeldFor c o script t u text new (other side)
           held_for = record {
-            sound = sound_to 0 u committed.commits;
-            settled = committed.settled;
-            holds = committed.holds;
+            sound = sound_to 0 u gives.0.commits;
+            settled = gives.0.settled;
+            holds = gives.0.holds;
             right = new_right c o script rest n j r side reads t b line after first new takes old_small printable.seq;
             shows = ap number_shown is ∙ number_shown-ok_text (settings_for c) new printable.seq;
             small = printable.seq;
           }
 
-          event_held : (reads' : List ℕ) → commits.StandsFor (Holds c new (other side)) reads' → IsImage (u ▷ Put text) reads' → Between c o script after (n + 1) (next_journal (on_memory c) o script rest n j r t b.going line after first new takes) new (other side) reads' (u ▷ Put text)
-          event_held = between_next c o script rest n j r t b.going line after first u _ text (next_journal (on_memory c) o script rest n j r t b.going line after first new takes) new answered
-              (reached c o script rest n j r side reads t b line after first new takes old_small printable.seq u committed.commits) (other side) held_for
+          pub event_held : IsImage (u ▷ Put text) reads' → Between c o script after (n + 1) (next_journal (on_memory c) o script rest n j r t b.going line after first new takes) new (side_view turned) reads' (u ▷ Put text)
+          event_held of = subst (λ (s : Side). Between c o script after (n + 1) later new s reads' (u ▷ Put text)) (sym gives.2)
+              (between_next c o script rest n j r t b.going line after first u entries text later new answered
+              (reached c o script rest n j r side reads t b line after first new takes old_small printable.seq u gives.0.commits) (other side) held_for reads' gives.1 of)
 
-          event_unshown : (v : Trace) → PutsFront u text v → RanOnMemory c o script v Write
-          event_unshown = put_failed c o script rest n j r t b.going line after first u _ text (next_journal (on_memory c) o script rest n j r t b.going line after first new takes) new answered
-              (reached c o script rest n j r side reads t b line after first new takes old_small printable.seq u committed.commits) (other side) held_for
-
-        -- what a step of the board gives
-        module _ (text : List ℕ) (is : text ≡ ok_text (settings_for c) new) where
-          pub step_ends : (t' : Trace) (reads' : List ℕ) (ended : Ended) → StepGives c side r new text t (Err ended) t' reads' → RanOnMemory c o script t' ended
-          step_ends t' reads' Memory gives = memory_failed t' gives
-          step_ends t' reads' WasCut gives = power_cut t' reads' gives.0 gives.1
-          step_ends t' reads' Write gives = event_unshown gives.0 text gives.1 is t' gives.2
-          step_ends t' reads' Done gives = absurd gives
-          step_ends t' reads' (Line m kind) gives = absurd gives
-          step_ends t' reads' Read gives = absurd gives
-          step_ends t' reads' OutOfMemory gives = absurd gives
-          step_ends t' reads' (Unformatted byte) gives = absurd gives
-          step_ends t' reads' (Foreign at) gives = absurd gives
-
-          pub step_goes_on : (t' : Trace) (reads' : List ℕ) (turned : sides.Side) → StepGives c side r new text t (Ok turned) t' reads' → IsImage t' reads'
-              → Between c o script after (n + 1) (next_journal (on_memory c) o script rest n j r t b.going line after first new takes) new (side_view turned) reads' t'
-          step_goes_on t' reads' turned gives of =
-              let later = next_journal (on_memory c) o script rest n j r t b.going line after first new takes in
-              subst (λ (s : Side). Between c o script after (n + 1) later new s reads' t') (sym gives.4)
-              (subst (Between c o script after (n + 1) later new (other side) reads') (sym gives.2)
-              (event_held gives.0 text gives.1 is reads' gives.3 (subst (λ (u : Trace). IsImage u reads') gives.2 of)))
+          pub event_unshown : (v : Trace) → PutsFront u text v → RanOnMemory c o script v Write
+          event_unshown = put_failed c o script rest n j r t b.going line after first u entries text later new answered
+              (reached c o script rest n j r side reads t b line after first new takes old_small printable.seq u gives.0.commits) (other side) held_for

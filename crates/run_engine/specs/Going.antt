@@ -1,8 +1,8 @@
 -- How far a script is answered.
-use Rattle.std.specs.Prelude.{◌≡◌, ℕ, List, [], Result, Ok, Err, drop, length}
+use Rattle.std.specs.Prelude.{◌≡◌, ℕ, List, [], Result, Ok, Err, length}
 use Rattle.metering_model.specs.Records.{MeterRecord, StandsFor}
-use Rattle.metering_model.specs.Integral.{AllFitWithMargin}
-use Rattle.script_model.specs.Lines.{lines_of}
+use Rattle.metering_model.specs.Integral.{AllFitClosely}
+use Rattle.script_model.specs.Lines.{after_lines, lines_of}
 use Rattle.trace_model.specs.Trace.{Trace}
 use Rattle.trace_model.specs.Images.{IsImage, NothingPending}
 use Rattle.trace_model.specs.Moments.{IsPrefix}
@@ -19,15 +19,17 @@ use Rattle.register_store.specs.Commits as commits
 use Rattle.register_store.specs.Recovered.{side_view}
 use Rattle.run_engine.specs.declared.Ended.{Ended}
 use Rattle.run_engine.specs.declared.station.Station.{Station}
+use Rattle.run_engine.specs.Dry.{dry_opening, dry_setup}
+use Rattle.run_engine.specs.Ran.{Ran}
 use Rattle.run_engine.specs.Run.{IsSound, RanOnMemory}
 
 -- n lines have their answers, these bytes are left, j is the journal, and r the record in force
 pub record Going (s : Setup) (o : MeterRecord) (script rest : List ℕ) (n : ℕ) (j : Journal) (r : MeterRecord) (trace : Trace) : Type 0 where
   pub pairs : Pairs s o 0 at_start (lines_of script) (output_lines trace) j
-  pub fits : AllFitWithMargin (settings_in s) o j.kept
+  pub fits : AllFitClosely (settings_in s) o j.kept
   pub count : length (output_lines trace) ≡ n
   pub nothing : open_segment trace ≡ []
-  pub left : drop n (lines_of script) ≡ lines_of rest
+  pub behind : after_lines n script ≡ rest
   pub in_force : StandsFor (settings_in s) o j.kept r
 
 -- and the memory holds r on this side, and nothing is pending; so far all was sound
@@ -49,3 +51,8 @@ pub record IsReady (c : Configuration) (o : MeterRecord) (script rest : List ℕ
 abbrev pub Leads : Configuration → MeterRecord → (script rest : List ℕ) → ℕ → Station → (reads : List ℕ) → Trace → {T : Type 0} → Result T Ended → Type 0
 Leads c o script rest n station reads t (Ok u) = IsReady c o script rest n station reads t
 Leads c o script rest n station reads t (Err ended) = RanOnMemory c o script t ended
+
+-- without a memory the next line may come, or the run is over
+abbrev pub LeadsDry : (script rest : List ℕ) → ℕ → MeterRecord → Trace → {T : Type 0} → Result T Ended → Type 0
+LeadsDry script rest n r t (Ok u) = (j : Journal) × Going dry_setup dry_opening script rest n j r t
+LeadsDry script rest n r t (Err ended) = Ran dry_setup dry_opening script t ended

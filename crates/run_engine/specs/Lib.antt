@@ -5,3 +5,4 @@ pub mod Steps
 pub mod Run
 pub mod Shows
 pub mod Going
+pub mod Reads

@@ -3,20 +3,20 @@ use Rattle.std.specs.Prelude.{◌≡◌, ℕ, ◌+◌, ◌⊎◌, true, List, []
 use Rattle.std.specs.List.{list_all}
 use Rattle.metering_model.specs.Events.{Event, Kept}
 use Rattle.metering_model.specs.Records.{MeterRecord, record_after}
-use Rattle.metering_model.specs.Integral.{AllFitWithMargin}
-use Rattle.script_model.specs.Lines.{lines_of}
+use Rattle.metering_model.specs.Integral.{AllFitClosely}
+use Rattle.script_model.specs.Lines.{after_lines, lines_of}
 use Rattle.script_model.specs.Grammar.{Metering}
 use Rattle.trace_model.specs.Trace.{Entry, Put, Cut, Trace}
 use Rattle.trace_model.specs.Output.{OutputLine, output_lines, open_segment}
 use Rattle.trace_model.specs.Moments.{IsPrefix}
-use Rattle.journal_model.specs.Faults.{Fault, fault_of}
+use Rattle.journal_model.specs.Faults.{Fault, fault_of, is_open}
 use Rattle.pairing_model.specs.Setup.{Setup, settings_in}
 use Rattle.pairing_model.specs.Journal.{Journal, at_start}
 use Rattle.pairing_model.specs.Pairing.{Answers, Pairs, may_stand}
 use Rattle.recovery_model.specs.Right.{NextIsEvent}
 use Rattle.event_script.specs.Views.{fault_view}
 use Rattle.run_engine.specs.declared.Ended.{Ended}
-use Rattle.run_engine.specs.declared.Ended.TheVariants.{Done, Line, Memory, Read, Write, Unformatted, Foreign, OutOfMemory, Cut as WasCut}
+use Rattle.run_engine.specs.declared.Ended.TheVariants.{Done, Line, Memory, Read, Write, Unformatted, Foreign, Cut as WasCut}
 
 -- the line after the n first is refused for this reason, which the record in force decides
 pub record IsRefused (s : Setup) (o : MeterRecord) (lines : List (List ℕ)) (kept : List Kept) (n : ℕ) (fault : Fault) : Type 0 where
@@ -49,41 +49,46 @@ pub record StopsInAnswer (s : Setup) (o : MeterRecord) (lines : List (List ℕ))
 
 -- Done: each line has its output line. Line: the next line is refused, and nothing happened for it. Memory: it failed at
 -- first, or for the event of the next line. Cut: so did the power. Write: the last answer went out, or the next one failed.
--- Read, OutOfMemory: nothing went out. The memory is never found unformatted or foreign.
+-- Read: nothing happened since. The memory is never found unformatted or foreign.
 abbrev pub EndsAt : Setup → MeterRecord → List (List ℕ) → List OutputLine → List Entry → Journal → Ended → Type 0
 EndsAt s o lines outputs rest j Done = (length outputs ≡ length lines) × (rest ≡ [])
 EndsAt s o lines outputs rest j (Line n kind) = (n ≡ length outputs + 1) × IsRefused s o lines j.kept (length outputs) (fault_view kind) × (rest ≡ [])
 EndsAt s o lines outputs rest j Memory = ((outputs ≡ []) × (rest ≡ [])) ⊎ StopsInEvent s o lines j.kept (length outputs) rest
 EndsAt s o lines outputs rest j WasCut = StopsAtCut s o lines j.kept (length outputs) rest
 EndsAt s o lines outputs rest j Write = (rest ≡ []) ⊎ StopsInAnswer s o lines j (length outputs) rest
-EndsAt s o lines outputs rest j Read = (outputs ≡ []) × (rest ≡ [])
-EndsAt s o lines outputs rest j OutOfMemory = (outputs ≡ []) × (rest ≡ [])
+EndsAt s o lines outputs rest j Read = rest ≡ []
 EndsAt s o lines outputs rest j (Unformatted byte) = ⊥
 EndsAt s o lines outputs rest j (Foreign at) = ⊥
 
--- at a moment, the output lines pair with the first lines of the script, and the events that they keep fit with margin
+-- at a moment, the output lines pair with the first lines of the script, and the events that they keep fit closely
 pub record Metered (s : Setup) (o : MeterRecord) (script : List ℕ) (moment : Trace) : Type 0 where
   pub journal : Journal
   pub pairs : Pairs s o 0 at_start (lines_of script) (output_lines moment) journal
-  pub fits : AllFitWithMargin (settings_in s) o journal.kept
+  pub fits : AllFitClosely (settings_in s) o journal.kept
 
 -- The output lines pair with the first lines of the script, from the opening record o, and the events that they keep fit
--- with margin. So it was at each moment.
+-- closely. So it was at each moment.
 pub record Ran (s : Setup) (o : MeterRecord) (script : List ℕ) (trace : Trace) (ended : Ended) : Type 0 where
   pub journal : Journal
   pub pairs : Pairs s o 0 at_start (lines_of script) (output_lines trace) journal
-  pub fits : AllFitWithMargin (settings_in s) o journal.kept
+  pub fits : AllFitClosely (settings_in s) o journal.kept
   pub ends : EndsAt s o (lines_of script) (output_lines trace) (open_segment trace) journal ended
   pub moments : (p : Trace) → IsPrefix p trace → Metered s o script p
 
--- an answer to lines that were read
+-- an answer of a run that has its record
 abbrev pub AnswersLines : Ended → Type 0
 AnswersLines Done = Unit {0}
 AnswersLines (Line n kind) = Unit {0}
 AnswersLines Memory = Unit {0}
 AnswersLines WasCut = Unit {0}
 AnswersLines Write = Unit {0}
-AnswersLines Read = ⊥
-AnswersLines OutOfMemory = ⊥
+AnswersLines Read = Unit {0}
 AnswersLines (Unformatted byte) = ⊥
 AnswersLines (Foreign at) = ⊥
+
+-- Where a read failed: behind the lines that were answered stands what of the next one was delivered, which leaves it open
+-- what that line says and why it is refused, and then what the source has left.
+pub record StopsAtRead (script left : List ℕ) (n : ℕ) : Type 0 where
+  pub front : List ℕ
+  pub behind : after_lines n script ≡ front ++ left
+  pub undecided : is_open n front ≡ true

@@ -1,19 +1,18 @@
 -- What the board does for one event.
 use Rattle.std.specs.Prelude.{◌≡◌, ℕ, List, Result, Ok, Err}
 use Rattle.metering_model.specs.Records.{MeterRecord}
-use Rattle.trace_model.specs.Trace.{Put, Trace, ◌▷◌}
+use Rattle.trace_model.specs.Trace.{Trace}
 use Rattle.trace_model.specs.Images.{NothingPending}
 use Rattle.trace_model.specs.Moments.{Grew, Leaves}
 use Rattle.config_model.specs.Configuration.{Configuration}
 use Rattle.memory_model.specs.Stored as model
 use Rattle.memory_model.specs.Stored.{Holds}
-use Rattle.meter_board.specs.Puts.{PutsFront}
 use Rattle.register_store.specs.declared.side.Side.{Side}
 use Rattle.register_store.specs.Commits.{EndsCut, HoldsEither, StandsFor, other}
 use Rattle.register_store.specs.Recovered.{side_view}
 use Rattle.register_store.specs.Works.{Works}
 use Rattle.run_engine.specs.declared.Ended.{Ended}
-use Rattle.run_engine.specs.declared.Ended.TheVariants.{Done, Line, Memory, Read, Write, Unformatted, Foreign, OutOfMemory, Cut}
+use Rattle.run_engine.specs.declared.Ended.TheVariants.{Done, Line, Memory, Read, Write, Unformatted, Foreign, Cut}
 
 -- the memory alone worked, with so many cuts, and each image holds the old record on its side or the new one on the other
 pub record Commits (c : Configuration) (side : model.Side) (old new : MeterRecord) (cuts : ℕ) (t u : Trace) : Type 0 where
@@ -26,20 +25,17 @@ pub record Committed (c : Configuration) (side : model.Side) (old new : MeterRec
   pub settled : NothingPending u
   pub holds : Leaves (StandsFor (Holds c new (other side))) u
 
--- The new record takes the old one's place, and then this text goes out. Where the memory fails or the power is cut, it
--- stopped before that; where the output fails, a front of the text went out, or nothing.
-abbrev pub StepGives : Configuration → model.Side → (old new : MeterRecord) → List ℕ → Trace → Result Side Ended → Trace → List ℕ → Type 0
-StepGives c side old new text t (Ok turned) t' reads' =
-    (u : Trace) × Committed c side old new t u × (t' ≡ u ▷ Put text) × StandsFor (Holds c new (other side)) reads' × (side_view turned ≡ other side)
-StepGives c side old new text t (Err Memory) t' reads' = Commits c side old new 0 t t'
-StepGives c side old new text t (Err Cut) t' reads' = Commits c side old new 1 t t' × EndsCut (HoldsEither c side old new) t' reads'
-StepGives c side old new text t (Err Write) t' reads' = (u : Trace) × Committed c side old new t u × PutsFront u text t'
-StepGives c side old new text t (Err Done) t' reads' = ⊥
-StepGives c side old new text t (Err (Line n kind)) t' reads' = ⊥
-StepGives c side old new text t (Err Read) t' reads' = ⊥
-StepGives c side old new text t (Err OutOfMemory) t' reads' = ⊥
-StepGives c side old new text t (Err (Unformatted byte)) t' reads' = ⊥
-StepGives c side old new text t (Err (Foreign at)) t' reads' = ⊥
+-- The new record takes the old one's place. Where the memory fails or the power is cut, it stopped before that.
+abbrev pub HoldGives : Configuration → model.Side → (old new : MeterRecord) → Trace → Result Side Ended → Trace → List ℕ → Type 0
+HoldGives c side old new t (Ok turned) t' reads' = Committed c side old new t t' × StandsFor (Holds c new (other side)) reads' × (side_view turned ≡ other side)
+HoldGives c side old new t (Err Memory) t' reads' = Commits c side old new 0 t t'
+HoldGives c side old new t (Err Cut) t' reads' = Commits c side old new 1 t t' × EndsCut (HoldsEither c side old new) t' reads'
+HoldGives c side old new t (Err Write) t' reads' = ⊥
+HoldGives c side old new t (Err Done) t' reads' = ⊥
+HoldGives c side old new t (Err (Line n kind)) t' reads' = ⊥
+HoldGives c side old new t (Err Read) t' reads' = ⊥
+HoldGives c side old new t (Err (Unformatted byte)) t' reads' = ⊥
+HoldGives c side old new t (Err (Foreign at)) t' reads' = ⊥
 
 -- what the memory stood for where it could not be recovered
 abbrev pub Unreadable : model.Stored → Ended → Type 0
@@ -51,7 +47,6 @@ Unreadable memory (Line n kind) = ⊥
 Unreadable memory Cut = ⊥
 Unreadable memory Write = ⊥
 Unreadable memory Read = ⊥
-Unreadable memory OutOfMemory = ⊥
 
 -- an answer of a memory that could not be recovered
 abbrev pub IsUnreadable : Ended → Type 0
@@ -63,4 +58,3 @@ IsUnreadable (Line n kind) = ⊥
 IsUnreadable Cut = ⊥
 IsUnreadable Write = ⊥
 IsUnreadable Read = ⊥
-IsUnreadable OutOfMemory = ⊥

@@ -7,19 +7,8 @@ use Rattle.metering_model.specs.Integral.{TakesEvent}
 use Rattle.script_model.specs.Grammar as grammar
 use Rattle.script_model.specs.Grammar.{Metering, line_of}
 use Rattle.journal_model.specs.Faults.{Command, Dry, event_fault, fault_of, said_fault}
-use Rattle.event_script.specs.declared.Line.{Line}
 use Rattle.event_script.specs.declared.LineFault.{LineFault}
-use Rattle.event_script.specs.Views.{fault_view, line_view}
-
--- the line after n lines says this, and is refused for what it says or not at all
-pub record SaysAt (n : ℕ) (line : List ℕ) (said : grammar.Line) : Type 0 where
-  pub says : line_of line ≡ Ok said
-  pub decides : (command : Command) (r : MeterRecord) → fault_of command r n line ≡ said_fault command r (Ok said)
-
--- what the line after n lines says, or why it is refused whatever the record in force
-abbrev pub Says : ℕ → List ℕ → Result Line LineFault → Type 0
-Says n line (Ok said) = SaysAt n line (line_view said)
-Says n line (Err kind) = (command : Command) → (r : MeterRecord) → fault_of command r n line ≡ Some (fault_view kind)
+use Rattle.event_script.specs.Views.{fault_view}
 
 -- the record takes the event exactly where it is refused for no cause, and else it is refused for the first one
 abbrev pub Takes : {T : Type 0} → Settings → MeterRecord → Event → MeterRecord → Result T LineFault → Type 0
@@ -33,7 +22,7 @@ pub record TakesLine (command : Command) (c : Settings) (n : ℕ) (old : MeterRe
   pub says : line_of line ≡ Ok (Metering event)
   pub takes : TakesEvent c old event new
 
--- without a memory the record takes the event of the line, or the line is refused for the first cause
-abbrev pub TakesDry : {T : Type 0} → Settings → ℕ → MeterRecord → List ℕ → MeterRecord → Result T LineFault → Type 0
-TakesDry c n old line new (Ok t) = TakesLine Dry c n old line new
-TakesDry c n old line new (Err kind) = fault_of Dry old n line ≡ Some (fault_view kind)
+-- without a memory the record takes the event that a line says, or the line is refused for what it says
+abbrev pub TakesDry : {T : Type 0} → Settings → MeterRecord → grammar.Line → MeterRecord → Result T LineFault → Type 0
+TakesDry c old said new (Ok t) = (event : Event) × (said ≡ Metering event) × (event_fault old event ≡ None) × TakesEvent c old event new
+TakesDry c old said new (Err kind) = said_fault Dry old (Ok said) ≡ Some (fault_view kind)

@@ -1,5 +1,5 @@
 //! The answers to lines: what the memory then holds, and what goes out.
-ghost use Rattle.std.specs.Prelude.{◌≡◌, ◌≤◌, ◌<◌, ℕ, List, Option, Some, IfErr, IsErrOf, length};
+ghost use Rattle.std.specs.Prelude.{◌≡◌, ◌⊎◌, ◌≤◌, ◌<◌, ℕ, List, Option, Some, IfErr, IfOk, IsErrOf, OnOk, length};
 ghost use Rattle.std.specs.Option.{option_map};
 ghost use Rattle.trace_model.specs.Trace.{base_of};
 ghost use Rattle.trace_model.specs.Images.{NothingPending};
@@ -15,9 +15,8 @@ ghost use Rattle.optical_readout.specs.Heard.{Heard};
 ghost use Rattle.mbus_records.specs.State.{IsAfter};
 ghost use Rattle.register_store.specs.Commits.{StandsFor, StandsOn};
 ghost use Rattle.register_store.specs.Recovered.{side_view};
-ghost use Rattle.run_engine.specs.Ran.{AnswersLines};
 ghost use Rattle.run_engine.specs.Shows.{RepliesOnBus, ShowGives, ShowsOnBus, ShowsReply};
-ghost use Rattle.run_engine.specs.Steps.{StepGives};
+ghost use Rattle.run_engine.specs.Steps.{HoldGives};
 
 use crate::Ended;
 use crate::text::{ok_line, readout_line};
@@ -29,31 +28,44 @@ use meter_core::Meter;
 use optical_readout::Optical;
 use register_store::{Side, StoreFault, commit};
 
-/// Lets the memory hold the meter's record, and then shows it. Answers the side that holds it.
-pub(crate) fn acknowledge<B: Board>(meter: &Meter, side: Side, board: &mut B) -> Result<Side, Ended>
+/// Lets the memory hold the meter's record in the place of the one that it holds on this side. Answers the side that
+/// holds it.
+pub(crate) fn hold<B: Board>(meter: &Meter, side: Side, board: &mut B) -> Result<Side, Ended>
     requires settled { B.tells → NothingPending (B.trace board.old) }
     requires stands { B.tells → StandsOn (side_view side) (B.reads board.old) }
-    ensures gives { B.tells → (c : Configuration) (r : metering.MeterRecord) → StandsFor (Holds c r (side_view side)) (B.reads board.old)
-        → StepGives c (side_view side) r (record_view meter.now.record) (ok_text (settings_of meter.now.config) (record_view meter.now.record)) (B.trace board.old) result (B.trace board.new) (B.reads board.new) }
+    ensures holds { B.tells → (c : Configuration) (r : metering.MeterRecord) → StandsFor (Holds c r (side_view side)) (B.reads board.old)
+        → HoldGives c (side_view side) r (record_view meter.now.record) (B.trace board.old) result (B.trace board.new) (B.reads board.new) }
+    ensures settled { B.tells → OnOk result (NothingPending (B.trace board.new)) }
+    ensures stands { B.tells → IfOk result (λ turned. StandsOn (side_view turned) (B.reads board.new)) }
     ensures base { B.tells → base_of (B.trace board.new) ≡ base_of (B.trace board.old) }
     ensures memory { IsErrOf result Ended.Memory → Rose (B.memory_faults board.old) (B.memory_faults board.new) }
-    ensures write { IsErrOf result Ended.Write → Rose (B.output_faults board.old) (B.output_faults board.new) }
     ensures cut { IsErrOf result Ended.Cut → Rose (B.cuts board.old) (B.cuts board.new) }
-    ensures kind { IfErr result AnswersLines }
+    ensures only { IfErr result (λ e. (e ≡ Ended.Memory) ⊎ (e ≡ Ended.Cut)) }
     ensures memory_faults { B.memory_faults board.old ≤ B.memory_faults board.new }
     ensures output_faults { B.output_faults board.old ≤ B.output_faults board.new }
     ensures cuts { B.cuts board.old ≤ B.cuts board.new }
 {
-    let turned = match commit(board, side, meter.state()) {
-        Ok(turned) => turned,
-        Err(StoreFault::Cut) => return Err(Ended::Cut),
-        Err(_) => return Err(Ended::Memory),
-    };
-    let text = ok_line(meter.state(), meter.config().per_pulse);
-    match board.put(text.as_str().as_bytes()) {
-        Ok(()) => Ok(turned),
-        Err(Failed) => Err(Ended::Write),
+    match commit(board, side, meter.state()) {
+        Ok(turned) => Ok(turned),
+        Err(StoreFault::Cut) => Err(Ended::Cut),
+        Err(_) => Err(Ended::Memory),
     }
+}
+
+/// Shows the meter's record, which the memory holds.
+pub(crate) fn acknowledge<B: Board>(meter: &Meter, board: &mut B) -> Result<(), Ended>
+    ensures shows { B.tells → ShowGives (B.trace board.old) (ok_text (settings_of meter.now.config) (record_view meter.now.record)) result (B.trace board.new) }
+    ensures base { B.tells → base_of (B.trace board.new) ≡ base_of (B.trace board.old) }
+    ensures settled { B.tells → NothingPending (B.trace board.old) → OnOk result (NothingPending (B.trace board.new)) }
+    ensures reads { B.tells → B.reads board.new ≡ B.reads board.old }
+    ensures only { IfErr result (λ e. e ≡ Ended.Write) }
+    ensures write { IsErrOf result Ended.Write → Rose (B.output_faults board.old) (B.output_faults board.new) }
+    ensures memory_faults { B.memory_faults board.old ≤ B.memory_faults board.new }
+    ensures output_faults { B.output_faults board.old ≤ B.output_faults board.new }
+    ensures cuts { B.cuts board.old ≤ B.cuts board.new }
+{
+    let text = ok_line(meter.state(), meter.config().per_pulse);
+    show(text.as_str().as_bytes(), board)
 }
 
 /// Hears a message at the optical head, and shows the reply.
@@ -67,6 +79,7 @@ pub(crate) fn answer_message<B: Board>(
         → ShowsReply (config_view meter.now.config) (record_view meter.now.record) last message.now (B.trace board.old) result (B.trace board.new) }
     ensures heard { Heard (config_view meter.now.config) (Some message.now) optical.new }
     ensures base { B.tells → base_of (B.trace board.new) ≡ base_of (B.trace board.old) }
+    ensures settled { B.tells → NothingPending (B.trace board.old) → OnOk result (NothingPending (B.trace board.new)) }
     ensures reads { B.tells → B.reads board.new ≡ B.reads board.old }
     ensures only { IfErr result (λ e. e ≡ Ended.Write) }
     ensures write { IsErrOf result Ended.Write → Rose (B.output_faults board.old) (B.output_faults board.new) }
@@ -89,6 +102,7 @@ pub(crate) fn answer_bytes<B: Board>(
     ensures shows { B.tells → (heard : List slaves.Heard) → IsAfter (config_view meter.now.config) heard slave.old
         → ShowsOnBus (config_view meter.now.config) (record_view meter.now.record) heard bytes.now slave.new (B.trace board.old) result (B.trace board.new) }
     ensures base { B.tells → base_of (B.trace board.new) ≡ base_of (B.trace board.old) }
+    ensures settled { B.tells → NothingPending (B.trace board.old) → OnOk result (NothingPending (B.trace board.new)) }
     ensures reads { B.tells → B.reads board.new ≡ B.reads board.old }
     ensures only { IfErr result (λ e. e ≡ Ended.Write) }
     ensures write { IsErrOf result Ended.Write → Rose (B.output_faults board.old) (B.output_faults board.new) }
@@ -124,6 +138,7 @@ fn bytes_of<const N: usize>(reply: &Option<ArrayVec<u8, N>>) -> Option<&[u8]>
 fn show<B: Board>(text: &[u8], board: &mut B) -> Result<(), Ended>
     requires { 0 < length text.now }
     ensures gives { B.tells → ShowGives (B.trace board.old) text.now result (B.trace board.new) }
+    ensures settled { B.tells → NothingPending (B.trace board.old) → OnOk result (NothingPending (B.trace board.new)) }
     ensures reads { B.tells → B.reads board.new ≡ B.reads board.old }
     ensures only { IfErr result (λ e. e ≡ Ended.Write) }
     ensures write { IsErrOf result Ended.Write → Rose (B.output_faults board.old) (B.output_faults board.new) }

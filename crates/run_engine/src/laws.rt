@@ -4,7 +4,7 @@ ghost use Rattle.std.specs.Prelude.{ℕ, List, ◌++◌};
 ghost use Rattle.metering_model.specs.Events.{Kept};
 ghost use Rattle.metering_model.specs.Settings.{Settings};
 ghost use Rattle.metering_model.specs.Records.{MeterRecord, StandsFor};
-ghost use Rattle.metering_model.specs.Integral.{AllFit, AllFitWithMargin};
+ghost use Rattle.metering_model.specs.Integral.{AllFit, AllFitWithMargin, AllFitClosely};
 ghost use Rattle.config_model.specs.Configuration.{Configuration};
 ghost use Rattle.trace_model.specs.Trace.{Trace};
 ghost use Rattle.recovery_model.specs.Bounded.{HoldsBounded};
@@ -24,4 +24,5 @@ pub fn histories_join()
     ensures stands { (c : Settings) (o m r : MeterRecord) (hs ls : List Kept) → StandsFor c o hs m → StandsFor c m ls r → StandsFor c o (hs ++ ls) r }
     ensures fit { (c : Settings) (o m : MeterRecord) (hs ls : List Kept) → StandsFor c o hs m → AllFit c o hs → AllFit c m ls → AllFit c o (hs ++ ls) }
     ensures margin { (c : Settings) (o m : MeterRecord) (hs ls : List Kept) → StandsFor c o hs m → AllFitWithMargin c o hs → AllFitWithMargin c m ls → AllFitWithMargin c o (hs ++ ls) }
+    ensures closely { (c : Settings) (o m : MeterRecord) (hs ls : List Kept) → StandsFor c o hs m → AllFitClosely c o hs → AllFitClosely c m ls → AllFitClosely c o (hs ++ ls) }
 {}

@@ -5,7 +5,6 @@ mod answers;
 mod laws;
 mod lines;
 mod on_memory;
-mod script;
 mod station;
 mod text;
 mod without_memory;
@@ -32,8 +31,6 @@ pub enum Ended {
     Unformatted { byte: u8 },
     /// The field at this offset in the memory breaks its rule.
     Foreign { at: u32 },
-    /// Memory for the program ran out.
-    OutOfMemory,
     /// The power failed, and the board's count of cuts rose.
     Cut,
 }

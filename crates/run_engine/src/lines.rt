@@ -1,35 +1,39 @@
 //! The lines of a script and their events.
-ghost use Rattle.std.specs.Prelude.{◌≡◌, ◌<◌, OnOk, IfOk};
+ghost use Rattle.std.specs.Prelude.{◌≡◌, ◌+◌, ◌≤◌, ◌++◌, true, false, OnOk, IfOk, IfErr, IsErrOf};
+ghost use Rattle.journal_model.specs.Faults.{is_open};
+ghost use Rattle.meter_board.specs.Causes.{Rose};
+ghost use Rattle.event_script.specs.Held.{held};
 ghost use Rattle.billing_memory.specs.Records.{record_view};
 ghost use Rattle.event_script.specs.Views.{IsEvent, IsInRange, event_view, fault_view};
 ghost use Rattle.meter_config.specs.Views.{settings_of};
 ghost use Rattle.meter_core.specs.Events.{refused_view};
-ghost use Rattle.run_engine.specs.Takes.{Says, Takes};
+ghost use Rattle.run_engine.specs.Reads.{EndsReading, NextLine};
+ghost use Rattle.run_engine.specs.Takes.{Takes};
 
-use event_script::{Event, Line, LineFault, read_line};
+use crate::Ended;
+use event_script::{Event, Line, LineFault, Lines, Next};
+use meter_board::Source;
 use meter_core::{Meter, Refused};
 
-/// The most lines of a script.
-const MAX_LINES: u32 = 1_000_000;
-
-/// The most bytes of a line, without its LF.
-const MAX_LINE_LEN: usize = 120;
-
-/// What a line says, where `taken` lines stand before it.
-pub(crate) fn said_by(line: &[u8], taken: u32) -> Result<Line, LineFault>
-    ensures says { Says taken line.now result }
+/// What the next line of a script says, or how a run ends there: at the end of the script, at a line that is refused
+/// whatever the record in force, or at a read that failed.
+pub(crate) fn next_line<S: Source>(lines: &mut Lines, source: &mut S) -> Result<Line, Ended>
+    requires { lines.old.has_ended ≡ false }
+    ensures gives { S.tells → NextLine lines.old.given (held lines.old.buffer ++ S.left source.old) result (held lines.new.buffer ++ S.left source.new) }
+    ensures open { IsErrOf result Ended.Read → is_open lines.old.given (held lines.new.buffer) ≡ true }
     ensures range { IfOk result IsInRange }
-    ensures few { OnOk result (taken < 1000000) }
+    ensures given { OnOk result (lines.new.given ≡ lines.old.given + 1) }
+    ensures fresh { OnOk result (lines.new.has_ended ≡ false) }
+    ensures kind { IfErr result EndsReading }
+    ensures fault { IsErrOf result Ended.Read → Rose (S.faults source.old) (S.faults source.new) }
+    ensures later { S.faults source.old ≤ S.faults source.new }
 {
-    if taken >= MAX_LINES {
-        return Err(LineFault::TooMany);
-    }
-    if line.len() > MAX_LINE_LEN {
-        return Err(LineFault::TooLong);
-    }
-    match read_line(line) {
-        Ok(said) => Ok(said),
-        Err(fault) => Err(LineFault::Grammar { at: fault.at }),
+    let n = lines.given() + 1;
+    match lines.next(source) {
+        Next::Got(said) => Ok(said),
+        Next::Bad(kind) => Err(Ended::Line { n, kind }),
+        Next::End => Err(Ended::Done),
+        Next::ReadFault => Err(Ended::Read),
     }
 }
 

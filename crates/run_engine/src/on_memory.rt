@@ -1,6 +1,7 @@
 //! The command `run`.
-ghost use Rattle.std.specs.Prelude.{◌≡◌, ◌≢◌, ◌≤◌, ◌⊎◌, ℕ, List, Ok, Err, []};
+ghost use Rattle.std.specs.Prelude.{◌≡◌, ◌≢◌, ℕ, List, Err, [], length};
 ghost use Rattle.trace_model.specs.Trace.{IsFresh, base_of};
+ghost use Rattle.trace_model.specs.Output.{output_lines};
 ghost use Rattle.script_model.specs.Lines.{lines_of};
 ghost use Rattle.config_model.specs.Configuration.{Configuration};
 ghost use Rattle.metering_model.specs.Records as metering;
@@ -13,44 +14,42 @@ ghost use Rattle.meter_config.specs.Views.{config_view};
 ghost use Rattle.meter_board.specs.Causes.{Rose};
 ghost use Rattle.register_store.specs.Commits.{StandsFor};
 ghost use Rattle.register_store.specs.Recovered.{RecoverGives, side_view};
-ghost use Rattle.run_engine.specs.Ran.{AnswersLines};
+ghost use Rattle.run_engine.specs.Ran.{AnswersLines, StopsAtRead};
 ghost use Rattle.run_engine.specs.Run.{RanOnMemory, RunLeaves};
 ghost use Rattle.run_engine.specs.Steps.{IsUnreadable, Unreadable};
 
 use crate::Ended;
-use crate::lines::said_by;
-use crate::script::{Unread, read_script};
+use crate::lines::next_line;
 use crate::station::Station;
-use event_script::split_line;
+use event_script::Lines;
 use meter_board::{Board, Source};
 use meter_core::Meter;
 use register_store::{Side, StoreFault, recover};
-use std::alloc::Global;
 
 /// Meters the events of a script over the memory of the board. Each event is taken by the record, then held by the
 /// memory, whatever the power does from then on, and then answered by an output line. A readout is answered from
-/// the record in force and what was heard since the start.
-pub fn run<S: Source, B: Board>(alloc: Global, source: &mut S, board: &mut B) -> Ended
+/// the record in force and what was heard since the start. The script is read after the memory was recovered.
+pub fn run<S: Source, B: Board>(source: &mut S, board: &mut B) -> Ended
     requires { B.tells → IsFresh (B.trace board.old) }
     ensures leaves { S.tells → B.tells → RunLeaves (stored (base_of (B.trace board.old))) (S.left source.old) (B.trace board.new) result }
     ensures complete { S.tells → B.tells → (c : Configuration) (o : metering.MeterRecord) (side : model.Side) → stored (base_of (B.trace board.old)) ≡ Holds c o side → NoneRefused (on_memory c) o (lines_of (S.left source.old))
         → ¬ Rose (S.faults source.old) (S.faults source.new) → ¬ Rose (B.memory_faults board.old) (B.memory_faults board.new) → ¬ Rose (B.output_faults board.old) (B.output_faults board.new) → ¬ Rose (B.cuts board.old) (B.cuts board.new)
-        → (result ≡ Ended.Done) ⊎ (result ≡ Ended.OutOfMemory) }
+        → result ≡ Ended.Done }
     ensures base { B.tells → base_of (B.trace board.new) ≡ base_of (B.trace board.old) }
     ensures end { S.tells → B.tells → result ≡ Ended.Done → S.left source.new ≡ [] }
+    ensures delivered { S.tells → B.tells → result ≡ Ended.Read → StopsAtRead (S.left source.old) (S.left source.new) (length (output_lines (B.trace board.new))) }
+    ensures unformatted_unread { (byte : ℕ) → result ≡ Ended.Unformatted byte → source.new ≡ source.old }
+    ensures foreign_unread { (at : ℕ) → result ≡ Ended.Foreign at → source.new ≡ source.old }
     ensures memory { result ≡ Ended.Memory → Rose (B.memory_faults board.old) (B.memory_faults board.new) }
     ensures read { result ≡ Ended.Read → Rose (S.faults source.old) (S.faults source.new) }
     ensures write { result ≡ Ended.Write → Rose (B.output_faults board.old) (B.output_faults board.new) }
     ensures cut { result ≡ Ended.Cut → Rose (B.cuts board.old) (B.cuts board.new) }
 {
-    let (config, opening, side) = match recover(board) {
-        Ok(held) => held,
-        Err(fault) => return unreadable(fault),
-    };
-    match read_script(alloc, source) {
-        Ok(script) => answer_lines(&script, Meter::start(config, opening), side, board),
-        Err(Unread::Failed) => Ended::Read,
-        Err(Unread::OutOfMemory) => Ended::OutOfMemory,
+    match recover(board) {
+        Ok((config, opening, side)) => {
+            answer_lines(source, Meter::start(config, opening), side, board)
+        }
+        Err(fault) => unreadable(fault),
     }
 }
 
@@ -70,34 +69,35 @@ fn unreadable(fault: StoreFault) -> Ended
 }
 
 /// Answers the lines of a script, up to the first that is refused, by the meter whose record the memory holds.
-fn answer_lines<B: Board>(script: &[u8], meter: Meter, side: Side, board: &mut B) -> Ended
+fn answer_lines<S: Source, B: Board>(
+    source: &mut S,
+    meter: Meter,
+    side: Side,
+    board: &mut B,
+) -> Ended
     requires fresh { B.tells → IsFresh (B.trace board.old) }
     requires holds { B.tells → StandsFor (Holds (config_view meter.config) (record_view meter.record) (side_view side)) (B.reads board.old) }
     ensures base { B.tells → base_of (B.trace board.new) ≡ base_of (B.trace board.old) }
-    ensures ran { B.tells → RanOnMemory (config_view meter.config) (record_view meter.record) script.now (B.trace board.new) result }
+    ensures ran { S.tells → B.tells → RanOnMemory (config_view meter.config) (record_view meter.record) (S.left source.old) (B.trace board.new) result }
+    ensures end { S.tells → B.tells → result ≡ Ended.Done → S.left source.new ≡ [] }
+    ensures delivered { S.tells → B.tells → result ≡ Ended.Read → StopsAtRead (S.left source.old) (S.left source.new) (length (output_lines (B.trace board.new))) }
     ensures kind { AnswersLines result }
     ensures memory { result ≡ Ended.Memory → Rose (B.memory_faults board.old) (B.memory_faults board.new) }
+    ensures read { result ≡ Ended.Read → Rose (S.faults source.old) (S.faults source.new) }
     ensures write { result ≡ Ended.Write → Rose (B.output_faults board.old) (B.output_faults board.new) }
     ensures cut { result ≡ Ended.Cut → Rose (B.cuts board.old) (B.cuts board.new) }
-    ensures memory_faults { B.memory_faults board.old ≤ B.memory_faults board.new }
-    ensures output_faults { B.output_faults board.old ≤ B.output_faults board.new }
-    ensures cuts { B.cuts board.old ≤ B.cuts board.new }
 {
     let mut station = Station::start(meter, side);
-    let mut rest = script;
-    let mut taken = 0;
-    while !rest.is_empty() {
-        let (line, after) = split_line(rest);
-        let said = match said_by(line, taken) {
+    let mut lines = Lines::new();
+    loop {
+        let taken = lines.given();
+        let said = match next_line(&mut lines, source) {
             Ok(said) => said,
-            Err(kind) => return Ended::Line { n: taken + 1, kind },
+            Err(ended) => return ended,
         };
         match station.answer(&said, taken, board) {
             Ok(()) => {}
             Err(ended) => return ended,
         }
-        taken += 1;
-        rest = after;
     }
-    Ended::Done
 }

@@ -1,10 +1,10 @@
 //! A meter over a memory, with its readouts.
-ghost use Rattle.std.specs.Prelude.{◌≡◌, ◌+◌, ◌≤◌, ◌<◌, ℕ, List, [], ◌∷◌, None, IfErr, IsErrOf};
+ghost use Rattle.std.specs.Prelude.{◌≡◌, ◌+◌, ◌≤◌, ◌<◌, ℕ, List, [], None, IfErr, IsErrOf, OnOk};
 ghost use Rattle.trace_model.specs.Trace.{base_of};
 ghost use Rattle.trace_model.specs.Images.{NothingPending};
 ghost use Rattle.config_model.specs.Configuration.{Configuration};
 ghost use Rattle.metering_model.specs.Records as metering;
-ghost use Rattle.script_model.specs.Lines.{lines_of};
+ghost use Rattle.event_script.specs.Next.{IsFirst, SaysAt};
 ghost use Rattle.event_script.specs.Views.{IsInRange, line_view};
 ghost use Rattle.meter_config.specs.Views.{config_view};
 ghost use Rattle.meter_board.specs.Causes.{Rose};
@@ -14,7 +14,7 @@ ghost use Rattle.register_store.specs.Commits.{StandsOn};
 ghost use Rattle.register_store.specs.Recovered.{side_view};
 
 use crate::Ended;
-use crate::answers::{acknowledge, answer_bytes, answer_message};
+use crate::answers::{acknowledge, answer_bytes, answer_message, hold};
 use crate::lines::take_event;
 use event_script::Line;
 use mbus_records::Slave;
@@ -35,8 +35,7 @@ pub(crate) struct Station {
 
 impl Station {
     ghost use Rattle.run_engine.specs.Going.{IsReady, Leads};
-    ghost use Rattle.run_engine.specs.Ran.{AnswersLines};
-    ghost use Rattle.run_engine.specs.Takes.{SaysAt};
+    ghost use Rattle.run_engine.specs.Reads.{EndsAnswering};
 
     /// A meter that has been read out by nobody since the start.
     pub(crate) fn start(meter: Meter, side: Side) -> Station
@@ -65,14 +64,16 @@ impl Station {
         requires settled { B.tells → NothingPending (B.trace board.old) }
         requires stands { B.tells → StandsOn (side_view self.old.side) (B.reads board.old) }
         ensures leads { B.tells → (c : Configuration) (o : metering.MeterRecord) (script rest line after : List ℕ) → c ≡ config_view self.old.meter.config
-            → IsReady c o script rest taken self.old (B.reads board.old) (B.trace board.old) → lines_of rest ≡ line ∷ lines_of after → SaysAt taken line (line_view said.now)
+            → IsReady c o script rest taken self.old (B.reads board.old) (B.trace board.old) → IsFirst rest line after → SaysAt taken line (line_view said.now)
             → Leads c o script after (taken + 1) self.new (B.reads board.new) (B.trace board.new) result }
+        ensures settled { B.tells → OnOk result (NothingPending (B.trace board.new)) }
+        ensures stands { B.tells → OnOk result (StandsOn (side_view self.new.side) (B.reads board.new)) }
         ensures config { self.new.meter.config ≡ self.old.meter.config }
         ensures base { B.tells → base_of (B.trace board.new) ≡ base_of (B.trace board.old) }
         ensures memory { IsErrOf result Ended.Memory → Rose (B.memory_faults board.old) (B.memory_faults board.new) }
         ensures write { IsErrOf result Ended.Write → Rose (B.output_faults board.old) (B.output_faults board.new) }
         ensures cut { IsErrOf result Ended.Cut → Rose (B.cuts board.old) (B.cuts board.new) }
-        ensures kind { IfErr result AnswersLines }
+        ensures kind { IfErr result EndsAnswering }
         ensures memory_faults { B.memory_faults board.old ≤ B.memory_faults board.new }
         ensures output_faults { B.output_faults board.old ≤ B.output_faults board.new }
         ensures cuts { B.cuts board.old ≤ B.cuts board.new }
@@ -83,8 +84,8 @@ impl Station {
                     Ok(()) => {}
                     Err(kind) => return Err(Ended::Line { n: taken + 1, kind }),
                 }
-                self.side = acknowledge(&self.meter, self.side, board)?;
-                Ok(())
+                self.side = hold(&self.meter, self.side, board)?;
+                acknowledge(&self.meter, board)
             }
             Line::Opt(message) => {
                 answer_message(message.as_slice(), &self.meter, &mut self.optical, board)

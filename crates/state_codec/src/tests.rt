@@ -40,6 +40,23 @@ fn header_with_an_unknown_place(rt: HostRuntime) {
     assert_eq!(rt; decode_header(&bytes), Err(Foreign { at: 11 }));
 }
 
+#[test]
+fn letters_and_reserved_bytes_have_offsets_of_their_own(rt: HostRuntime) {
+    let mut bytes = header();
+    bytes[255] = 0x01;
+    assert_eq!(rt; decode_header(&bytes), Err(Foreign { at: 255 }));
+    bytes[100] = 0xff;
+    assert_eq!(rt; decode_header(&bytes), Err(Foreign { at: 100 }));
+    bytes[24] = 0x01;
+    assert_eq!(rt; decode_header(&bytes), Err(Foreign { at: 24 }));
+    bytes[8] = 0x61;
+    assert_eq!(rt; decode_header(&bytes), Err(Foreign { at: 8 }));
+    bytes[7] = 0x5b;
+    assert_eq!(rt; decode_header(&bytes), Err(Foreign { at: 7 }));
+    bytes[6] = 0x40;
+    assert_eq!(rt; decode_header(&bytes), Err(Foreign { at: 6 }));
+}
+
 fn opening() -> MeterRecord {
     MeterRecord::opening(Day { number: 8_780 })
 }
@@ -52,6 +69,15 @@ fn opening_record_is_read_again(rt: HostRuntime) {
     assert!(rt; bytes[..8].iter().all(|byte| *byte == 0));
     assert!(rt; bytes[10..].iter().all(|byte| *byte == 0));
     assert_eq!(rt; decode_record(&bytes), Ok(opening()));
+}
+
+#[test]
+fn reserved_bytes_of_a_record_have_the_offset_of_the_first(rt: HostRuntime) {
+    let mut bytes = encode_record(&opening());
+    bytes[1279] = 1;
+    assert_eq!(rt; decode_record(&bytes), Err(Foreign { at: 1272 }));
+    bytes[15] = 1;
+    assert_eq!(rt; decode_record(&bytes), Err(Foreign { at: 13 }));
 }
 
 #[test]

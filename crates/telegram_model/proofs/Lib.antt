@@ -1,3 +1,3 @@
 pub mod Dates
 pub mod Sizes
-mod Worked
+pub mod Worked

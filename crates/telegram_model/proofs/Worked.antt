@@ -9,7 +9,7 @@ use Rattle.telegram_model.specs.Values.{information, decimal_bytes, integer_byte
 use Rattle.telegram_model.proofs.Dates.{january, february}
 use Rattle.telegram_model.specs.Telegram.{telegram, header, energy_record, volume_record, date_record, temp_records, entry_records, set_day_records, records_of, first_records}
 
-abbrev configuration : Configuration
+abbrev pub configuration : Configuration
 configuration = record {
   serial = 12345678;
   maker = 65 ∷ 66 ∷ 67 ∷ [];
@@ -26,11 +26,11 @@ configuration = record {
 }
 
 -- three pulses, with no samples in force
-abbrev register : Register
+abbrev pub register : Register
 register = record { pulses = 3; energy_mj = pos 0; bound_mj = 0 }
 
 -- the record on 2024-01-15 ..
-abbrev before : MeterRecord
+abbrev pub before : MeterRecord
 before = record {
   seq = 1;
   day = 8780;
@@ -65,7 +65,7 @@ of_month : date_record 2 8797 ≡ 130 ∷ 1 ∷ 108 ∷ 1 ∷ 50 ∷ []
 unfolding date_record
 of_month = ap (λ (l : List ℕ). 130 ∷ 1 ∷ 108 ∷ l) february
 
-without_months : option_map frame_bytes (telegram configuration before 0 0) ≡ Some (104 ∷ 31 ∷ 31 ∷ 104 ∷ 8 ∷ 1 ∷ 114 ∷ 120 ∷ 86 ∷ 52 ∷ 18 ∷ 67 ∷ 4 ∷ 1 ∷ 4 ∷ 0 ∷ 0 ∷ 0 ∷ 0 ∷ 12 ∷ 6 ∷ 0 ∷ 0 ∷ 0 ∷ 0 ∷ 12 ∷ 20 ∷ 3 ∷ 0 ∷ 0 ∷ 0 ∷ 2 ∷ 108 ∷ 15 ∷ 49 ∷ 190 ∷ 22 ∷ [])
+pub without_months : option_map frame_bytes (telegram configuration before 0 0) ≡ Some (104 ∷ 31 ∷ 31 ∷ 104 ∷ 8 ∷ 1 ∷ 114 ∷ 120 ∷ 86 ∷ 52 ∷ 18 ∷ 67 ∷ 4 ∷ 1 ∷ 4 ∷ 0 ∷ 0 ∷ 0 ∷ 0 ∷ 12 ∷ 6 ∷ 0 ∷ 0 ∷ 0 ∷ 0 ∷ 12 ∷ 20 ∷ 3 ∷ 0 ∷ 0 ∷ 0 ∷ 2 ∷ 108 ∷ 15 ∷ 49 ∷ 190 ∷ 22 ∷ [])
 unfolding telegram header energy_record volume_record entry_records first_records decimal_bytes
 without_months = rw on_15 refl
 

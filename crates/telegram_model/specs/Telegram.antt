@@ -9,7 +9,7 @@ use Rattle.display_model.specs.Display.{shown_digits, energy_unit, volume_unit}
 use Rattle.config_model.specs.Configuration.{Configuration}
 use Rattle.metering_model.specs.Counting.{is_in_range, whole_temp}
 use Rattle.metering_model.specs.Records.{Register, MeterRecord}
-use Rattle.frame_model.specs.Frames.{Frame, Long}
+use Rattle.frame_model.specs.Frames.{Frame, Ack, Short, Long}
 use Rattle.telegram_model.specs.Values.{information, decimal_bytes, integer_bytes, thousandths, date_bytes}
 
 -- ---- the header
@@ -118,3 +118,9 @@ telegram c m k access =
     if nat_le k ((length (newest m) + 7) / 8)
     then Some (Long 8 c.address 114 (header c access ++ records_of c m k ++ mark_of m k))
     else None
+
+-- how many bytes the body of a frame has
+abbrev pub body_length : Frame → ℕ
+body_length Ack = 0
+body_length (Short c a) = 0
+body_length (Long c a ci body) = length body

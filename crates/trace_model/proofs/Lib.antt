@@ -1,3 +1,4 @@
 pub mod Lines
 pub mod Images
 pub mod Moments
+mod Worked

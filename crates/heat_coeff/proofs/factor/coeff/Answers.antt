@@ -34,14 +34,26 @@ returns-clause-ordered c =
     simp to_z-of_z (rw (c.quotient_ends-ends.ensures.lo, c.quotient_ends-ends.ensures.hi)
     (ends_ordered (c.heat_given-given.result.lo *ℤ pos 256000000000000) (c.heat_given-given.result.hi *ℤ pos 256000000000000) _ _ (mul-pos volume apart) (mul-le_pos 256000000000000 c.heat_given-given.result.ordered)))
 
+pub returns-clause-closer : goal.returns-clause-closer
+returns-clause-closer c =
+    let fl : SFits w128 c.quotient_ends-ends.result.lo = search rules in
+    let fh : SFits w128 c.quotient_ends-ends.result.hi = search rules in
+    let flow : c.point-f.result.hi - c.point-f.result.lo ≤ 0 = omega (arith, c.point-f.ensures.lo, c.point-f.ensures.hi) in
+    let ret : c.point-r.result.hi - c.point-r.result.lo ≤ 0 = omega (arith, c.point-r.ensures.lo, c.point-r.ensures.hi) in
+    let narrow : ((c.heat_given-given.result.hi -ℤ c.heat_given-given.result.lo) *ℤ pos (10 ^ 9)) ≤ℤ pos (74 * 2 ^ 48) = omega (arith, ints, c.heat_given-given.ensures.width, flow, ret) in
+    simp to_z-of_z (rw (c.quotient_ends-ends.ensures.lo, c.quotient_ends-ends.ensures.hi)
+    (factor_ends (c.args.tf_udeg - c.args.tr_udeg) _ _ _ _ (omega arith) c.metered_volume-volume.result.ordered c.metered_volume-volume.ensures.least
+    (c.metered_volume-volume.ensures.width 0 flow ret)
+    c.heat_given-given.result.ordered c.heat_given-given.ensures.least c.heat_given-given.ensures.most narrow).0)
+
 pub returns-clause-width : goal.returns-clause-width
 returns-clause-width c =
     let fl : SFits w128 c.quotient_ends-ends.result.lo = search rules in
     let fh : SFits w128 c.quotient_ends-ends.result.hi = search rules in
     let flow : c.point-f.result.hi - c.point-f.result.lo ≤ 0 = omega (arith, c.point-f.ensures.lo, c.point-f.ensures.hi) in
     let ret : c.point-r.result.hi - c.point-r.result.lo ≤ 0 = omega (arith, c.point-r.ensures.lo, c.point-r.ensures.hi) in
-    let narrow : ((c.heat_given-given.result.hi -ℤ c.heat_given-given.result.lo) *ℤ pos (10 ^ 9)) ≤ℤ pos (2000 * 2 ^ 48) = omega (arith, ints, c.heat_given-given.ensures.width, flow, ret) in
+    let narrow : ((c.heat_given-given.result.hi -ℤ c.heat_given-given.result.lo) *ℤ pos (10 ^ 9)) ≤ℤ pos (74 * 2 ^ 48) = omega (arith, ints, c.heat_given-given.ensures.width, flow, ret) in
     simp to_z-of_z (rw (c.quotient_ends-ends.ensures.lo, c.quotient_ends-ends.ensures.hi)
     (factor_ends (c.args.tf_udeg - c.args.tr_udeg) _ _ _ _ (omega arith) c.metered_volume-volume.result.ordered c.metered_volume-volume.ensures.least
     (c.metered_volume-volume.ensures.width 0 flow ret)
-    c.heat_given-given.result.ordered c.heat_given-given.ensures.least c.heat_given-given.ensures.most narrow))
+    c.heat_given-given.result.ordered c.heat_given-given.ensures.least c.heat_given-given.ensures.most narrow).1)

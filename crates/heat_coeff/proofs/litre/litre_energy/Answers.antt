@@ -26,14 +26,17 @@ returns-clause-ordered c =
     simp to_z-of_z (rw (c.quotient_ends-ends.ensures.lo, c.quotient_ends-ends.ensures.hi)
     (ends_ordered (c.heat_given-given.result.lo *ℤ pos 256000) (c.heat_given-given.result.hi *ℤ pos 256000) _ _ above (mul-le_pos 256000 c.heat_given-given.result.ordered)))
 
-pub returns-clause-width : goal.returns-clause-width
-returns-clause-width c =
+pub returns-clause-closer : goal.returns-clause-closer
+returns-clause-closer c =
     let fl : SFits w128 c.quotient_ends-ends.result.lo = search rules in
     let fh : SFits w128 c.quotient_ends-ends.result.hi = search rules in
     simp to_z-of_z (rw (c.quotient_ends-ends.ensures.lo, c.quotient_ends-ends.ensures.hi)
     (litre_ends _ _ _ _ (c.args.f.hi - c.args.f.lo) (c.args.r.hi - c.args.r.lo) c.metered_volume-volume.result.ordered c.metered_volume-volume.ensures.least
     (c.metered_volume-volume.ensures.width 3000 c.requires.flow_narrow c.requires.return_narrow)
     c.heat_given-given.result.ordered c.heat_given-given.ensures.least c.heat_given-given.ensures.most c.heat_given-given.ensures.width))
+
+pub returns-clause-width : goal.returns-clause-width
+returns-clause-width c = omega (arith, ints, returns-clause-closer c)
 
 pub returns-clause-least : goal.returns-clause-least
 returns-clause-least c =

@@ -6,4 +6,4 @@ pub returns-clause-most : goal.returns-clause-most
 returns-clause-most c = omega (arith, ints, c.enthalpy.ensures.most, c.enthalpy-2.ensures.least, c.sub.ensures.hi)
 
 pub returns-clause-width : goal.returns-clause-width
-returns-clause-width c = omega (arith, ints, c.enthalpy.ensures.width, c.enthalpy-2.ensures.width, c.sub.ensures.lo, c.sub.ensures.hi)
+returns-clause-width c = omega (arith, ints, c.enthalpy.ensures.closer, c.enthalpy-2.ensures.closer, c.sub.ensures.lo, c.sub.ensures.hi)

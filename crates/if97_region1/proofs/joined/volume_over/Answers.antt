@@ -6,7 +6,8 @@ use Rattle.region1_algebra.specs.Forms.{joined_volume, volume_factor, u_of, r_of
 use Rattle.region1_algebra.proofs.Joined.{volume_joined}
 use Rattle.enclosure_sizes.proofs.Sizes.{Sized-product}
 use Rattle.if97_region1.specs.Sizes.{volume_size}
-use Rattle.if97_region1.proofs.Facts.{sized_products, volume_factor_sized, kelvin_above}
+use Rattle.if97_region1.proofs.Facts.{sized_products, volume_factor_sized}
+use Rattle.region1_ranges.proofs.Within.{kelvin_above}
 use Rattle.if97_region1.proofs.Rooms.{volume_product}
 use Rattle.if97_region1.proofs.joined.volume_over.Goals as goal
 

@@ -12,4 +12,4 @@ returns c =
     let given = c.litre_energy-q.ensures in
     calculator_judged (element c.args.curve) (place_view test.place) test.p_kpa test.dmin_udeg test.rf test.rr test.litres test.energy_mj _ c.litre_energy-q.result.lo_mj c.litre_energy-q.result.hi_mj c.judge_point.result c.difference-delta_udeg.ensures
     (λ tf tr f r. subst (λ p. LiesBetween c.litre_energy-q.result.lo_mj c.litre_energy-q.result.hi_mj (litre_energy p (place_view test.place) tf tr)) kept (given.holds tf tr (c.requires.flow_cell.holds tf f) (c.requires.return_cell.holds tr r)))
-    (litre_near _ _ _ _ _ _ c.requires.flow_cell.width c.requires.return_cell.width given.width) c.judge_point.ensures
+    (litre_near (element c.args.curve) test.rf test.rr c.litre_energy-q.result.lo_mj c.litre_energy-q.result.hi_mj _ _ _ _ c.requires.flow_cell c.requires.return_cell given.closer) c.judge_point.ensures

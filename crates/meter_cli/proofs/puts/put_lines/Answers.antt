@@ -8,6 +8,7 @@ loop-line-preserved g c = record {
   goes_on = λ tells new status rest.
       c.loop-line.invariant.goes_on tells new status
       (line_went c.args.lines.now c.loop-line.line-index c.line-item.result c.as_bytes.result.now c.loop-line-test.true c.line-item.is (c.as_bytes.ensures.value ∙ c.as_str.ensures.value) _ _ new status (c.in-Ok.ensures.gives tells) rest);
+  memory_untouched = c.put.ensures.memory_calls ∙ c.loop-line.invariant.memory_untouched;
   later = omega (arith, c.loop-line.invariant.later, c.put.ensures.cause.later);
 }
 

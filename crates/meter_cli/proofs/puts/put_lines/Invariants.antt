@@ -1,4 +1,4 @@
-use Rattle.std.proofs.Common.{◌≤◌, drop}
+use Rattle.std.proofs.Common.{◌≡◌, ◌≤◌, drop}
 use Rattle.trace_model.specs.Trace.{Trace}
 use Rattle.meter_cli.specs.Puts.{PutsLines}
 use Rattle.meter_cli.specs.Show.{bytes_of}
@@ -9,5 +9,6 @@ use Rattle.meter_cli.proofs.puts.put_lines.Given as goal
 abbrev pub invariant-loop-line : goal.invariant-loop-line
 invariant-loop-line g l = record {
   goes_on : g.B.Board.tells → (new : Trace) (status : Status) → PutsLines (bytes_of (drop l.line-index l.lines)) (g.B.Board.trace l.board) new status → PutsLines (bytes_of l.lines) (g.B.Board.trace l.fn.board) new status;
+  memory_untouched : g.B.Board.memory_calls l.board ≡ g.B.Board.memory_calls l.fn.board;
   later : g.B.Board.output_faults l.fn.board ≤ g.B.Board.output_faults l.board;
 }

@@ -1,7 +1,10 @@
 use Rattle.std.proofs.Common.{subst, sym}
 use Rattle.trace_model.specs.Output.{PutsAlone}
+use Rattle.reading_model.specs.Telegrams.{telegram_in}
+use Rattle.meter_cli.proofs.Certs.{cert_alone, cert_base, cert_ends}
 use Rattle.meter_cli.proofs.Inits.{each_moment}
 use Rattle.meter_cli.proofs.Lines.{done_or}
+use Rattle.meter_cli.proofs.Readings.{complete}
 use Rattle.meter_cli.proofs.Shows.{shows_alone, shows_base}
 use Rattle.meter_cli.proofs.top_call.meter.Goals as goal
 
@@ -35,3 +38,19 @@ returns-in-Ok-Gen-clause-one_line g c = λ job is one. done_or c.generate.result
 
 pub returns-in-Ok-Show-clause-base : goal.returns-in-Ok-Show-clause-base
 returns-in-Ok-Show-clause-base g c = λ tells. shows_base _ _ _ c.show.result (c.show.ensures.leaves tells)
+
+pub returns-in-Ok-Cert-clause-puts : goal.returns-in-Ok-Cert-clause-puts
+returns-in-Ok-Cert-clause-puts g c = λ other not_run tells. cert_alone _ 0 _ _ c.cert.result (c.cert.ensures.leaves tells) (subst PutsAlone (sym (c.requires tells)) tt)
+
+pub returns-in-Ok-Cert-clause-base : goal.returns-in-Ok-Cert-clause-base
+returns-in-Ok-Cert-clause-base g c = λ tells. cert_base _ 0 _ _ c.cert.result (c.cert.ensures.leaves tells)
+
+pub returns-in-Ok-Cert-clause-cert_complete : goal.returns-in-Ok-Cert-clause-cert_complete
+returns-in-Ok-Cert-clause-cert_complete g c = λ p is. cert_ends c.cert.result c.cert.ensures.kind c.cert.ensures.write
+
+pub returns-in-Ok-ReadMbus-clause-read_mbus_complete : goal.returns-in-Ok-ReadMbus-clause-read_mbus_complete
+returns-in-Ok-ReadMbus-clause-read_mbus_complete g c = λ is told unread unwritten.
+    complete (telegram_in (g.S.Source.left c.args.source.now)) c.mbus.result (c.mbus.ensures.answers told) (λ read. unread (c.mbus.ensures.read read)) (λ write. unwritten (c.mbus.ensures.write write))
+
+pub returns-in-Ok-ReadMbus-clause-puts : goal.returns-in-Ok-ReadMbus-clause-puts
+returns-in-Ok-ReadMbus-clause-puts g c = λ other not_run tells. c.mbus.ensures.alone tells (subst PutsAlone (sym (c.requires tells)) tt)

@@ -1,6 +1,6 @@
 use Rattle.std.proofs.Common.{subst}
-use Rattle.metering_model.specs.Integral.{AllFit, AllFitWithMargin}
-use Rattle.metering_model.proofs.Joined.{fit-joined, margin-joined, stands-joined}
+use Rattle.metering_model.specs.Integral.{AllFit, AllFitWithMargin, AllFitClosely}
+use Rattle.metering_model.proofs.Joined.{closely-joined, fit-joined, margin-joined, stands-joined}
 use Rattle.run_engine.proofs.laws.histories_join.Goals as goal
 
 pub returns-clause-stands : goal.returns-clause-stands
@@ -11,3 +11,6 @@ returns-clause-fit c = λ s o m hs ls stands first second. fit-joined s o hs ls 
 
 pub returns-clause-margin : goal.returns-clause-margin
 returns-clause-margin c = λ s o m hs ls stands first second. margin-joined s o hs ls first (subst (λ r. AllFitWithMargin s r ls) stands.is second)
+
+pub returns-clause-closely : goal.returns-clause-closely
+returns-clause-closely c = λ s o m hs ls stands first second. closely-joined s o hs ls first (subst (λ r. AllFitClosely s r ls) stands.is second)

@@ -9,7 +9,7 @@ pub returns-in-Request-clause-reply : goal.returns-in-Request-clause-reply
 returns-in-Request-clause-reply c = λ heard before.
     let config = config_view c.args.c.now in
     let h = heard_now c.args.f.now c.args.m.now in
-    c.last_reply.ensures
+    c.last_reply.ensures.frame
     ∙ request_replied config (reverse heard) h c.in-Request.control c.take_request.new.self c.in-Request.ensures
     (c.take_request.ensures config (reverse heard) h before c.in-Request.ensures refl)
 

@@ -1,5 +1,4 @@
-use Rattle.std.proofs.Common.{◌≡◌, ℕ, ◌+◌, ◌-◌, ◌≤◌, pos, ℤ, ◌+ℤ◌, ◌-ℤ◌, ◌*ℤ◌, ◌≤ℤ◌, arith, sym, Some, subst, ◌⊎◌, inl, inr}
-use Rattle.std.proofs.lemmas.Int.{ints}
+use Rattle.std.proofs.Common.{◌≡◌, ℕ, ◌+◌, ◌-◌, ◌≤◌, arith, sym, Some, subst, ◌⊎◌, inl, inr}
 use Rattle.interval_num.specs.declared.span.Span.{Span}
 use Rattle.sensor_pair.specs.declared.verdict.Verdict.{Verdict}
 use Rattle.sensor_pair.specs.Verdict.{IsCounts, IfCounts}
@@ -12,13 +11,14 @@ use Rattle.pulse_integrator.proofs.origin.Origin.litre.Goals as goal
 cells : (P : Span → Span → Type 0) (v : Verdict) (f r : Span) → v ≡ Counts f r → IfCounts v P → P f r
 cells P v f r is h = subst (λ w. IfCounts w P) is h
 
-close : (lo hi : ℤ) (a b d e : ℕ) → (pos 6 *ℤ (hi -ℤ lo)) ≤ℤ pos (600 + (b - a) + (e - d)) → b ≤ a + 2800 → e ≤ d + 2800 → hi ≤ℤ (lo +ℤ pos 1200)
-close lo hi a b d e h p q = let v : b - a ≤ 2800 = omega arith in let w : e - d ≤ 2800 = omega arith in omega (arith, ints)
+narrow_cell : (a b : ℕ) → b ≤ a + 2800 → b - a ≤ 2800
+narrow_cell a b h = omega arith
 
-pub of-requires-clause-close : goal.of-requires-clause-close
-of-requires-clause-close c =
-    let both = cells _ c.judge.result c.in-Counts.f c.in-Counts.r c.in-Counts.is c.judge.ensures.cells in
-    close c.litre_energy.result.lo_mj c.litre_energy.result.hi_mj _ _ _ _ c.litre_energy.ensures.width both.0.width both.1.width
+pub of-requires-clause-flow_narrow : goal.of-requires-clause-flow_narrow
+of-requires-clause-flow_narrow c = narrow_cell _ _ (cells _ c.judge.result c.in-Counts.f c.in-Counts.r c.in-Counts.is c.judge.ensures.cells).0.width
+
+pub of-requires-clause-return_narrow : goal.of-requires-clause-return_narrow
+of-requires-clause-return_narrow c = narrow_cell _ _ (cells _ c.judge.result c.in-Counts.f c.in-Counts.r c.in-Counts.is c.judge.ensures.cells).1.width
 
 pub returns-in-Counts : goal.returns-in-Counts
 returns-in-Counts c =
@@ -29,11 +29,9 @@ returns-in-Counts c =
       flow_cell = rw c.of.ensures.flow both.0;
       return_cell = rw c.of.ensures.ret both.1;
       holds = rw (c.of.ensures.flow, c.of.ensures.ret) c.litre_energy.ensures.holds;
-      ordered = c.litre_energy.ensures.ordered;
-      width = rw (c.of.ensures.flow, c.of.ensures.ret) c.litre_energy.ensures.width;
       low = c.of.ensures.low;
       high = c.of.ensures.high;
-      narrow = c.of.ensures.narrow;
+      closer = rw (c.of.ensures.flow, c.of.ensures.ret) c.of.ensures.closer;
     })
     c.of.ensures.size c.of.ensures.faulty
 

@@ -8,8 +8,9 @@ use Rattle.optical_readout.specs.Heard.{Heard}
 use Rattle.mbus_records.specs.State.{IsAfter}
 use Rattle.run_engine.specs.Going.{Leads}
 use Rattle.run_engine.specs.Shows.{ShowsOnBus, ShowsReply}
-use Rattle.run_engine.specs.Takes.{SaysAt}
-use Rattle.run_engine.proofs.Leads.{bytes_lead, event_ends, event_goes_on, event_refused, message_leads}
+use Rattle.event_script.specs.Next.{IsFirst, SaysAt}
+use Rattle.event_script.proofs.Says.{decides}
+use Rattle.run_engine.proofs.Leads.{bytes_lead, event_refused, hold_leads, message_leads, show_leads}
 use Rattle.run_engine.proofs.station.Station.answer.Goals as goal
 
 pub returns-in-Err-clause-leads : goal.returns-in-Err-clause-leads
@@ -20,16 +21,19 @@ returns-in-Err-clause-leads g c = λ tells config o script rest line after is re
 pub returns-in_err-self-in-Metering-clause-leads : goal.returns-in_err-self-in-Metering-clause-leads
 returns-in_err-self-in-Metering-clause-leads g c = λ tells config o script rest line after is ready first says.
     let given = err_from_is_err_and c.from_residual.result c.from_residual.ensures.1 in
-    subst (Leads config o script after (c.args.taken + 1) (record c.args.self.now { meter = c.take_event.new.meter }) (g.B.Board.reads c.acknowledge.new.board) (g.B.Board.trace c.acknowledge.new.board)) (sym (given.1 ∙ ap Err given.2))
-    (event_ends config o script rest c.args.taken c.args.self.now (g.B.Board.reads c.args.board.now) (g.B.Board.trace c.args.board.now) ready line after first is
+    subst (Leads config o script after (c.args.taken + 1) (record c.args.self.now { meter = c.take_event.new.meter }) (g.B.Board.reads c.hold.new.board) (g.B.Board.trace c.hold.new.board)) (sym (given.1 ∙ ap Err given.2))
+    (hold_leads config o script rest c.args.taken c.args.self.now (g.B.Board.reads c.args.board.now) (g.B.Board.trace c.args.board.now) ready line after first is
     (event_view c.in-Metering.event) (subst (λ said. SaysAt c.args.taken line (line_view said)) c.in-Metering.is says) c.take_event.new.meter c.take_event.ensures.config c.in-Ok.ensures.takes.0 c.in-Ok.ensures.takes.1
-    (g.B.Board.trace c.acknowledge.new.board) (g.B.Board.reads c.acknowledge.new.board) c.in_err-self-in-Metering.field-0.0 (c.in_err-self-in-Metering.ensures.gives tells config (record_view c.args.self.now.meter.record) ready.between.holds))
+    (g.B.Board.trace c.hold.new.board) (g.B.Board.reads c.hold.new.board) c.in_err-self-in-Metering.field-0.0
+    (c.in_err-self-in-Metering.ensures.holds tells config (record_view c.args.self.now.meter.record) ready.between.holds))
 
 pub returns-in_ok-self-in-Metering-clause-leads : goal.returns-in_ok-self-in-Metering-clause-leads
 returns-in_ok-self-in-Metering-clause-leads g c = λ tells config o script rest line after is ready first says.
-    event_goes_on config o script rest c.args.taken c.args.self.now (g.B.Board.reads c.args.board.now) (g.B.Board.trace c.args.board.now) ready line after first is
+    show_leads config o script rest c.args.taken c.args.self.now (g.B.Board.reads c.args.board.now) (g.B.Board.trace c.args.board.now) ready line after first is
     (event_view c.in-Metering.event) (subst (λ said. SaysAt c.args.taken line (line_view said)) c.in-Metering.is says) c.take_event.new.meter c.take_event.ensures.config c.in-Ok.ensures.takes.0 c.in-Ok.ensures.takes.1
-    (g.B.Board.trace c.acknowledge.new.board) (g.B.Board.reads c.acknowledge.new.board) c.in_ok-self-in-Metering.field-0 (c.in_ok-self-in-Metering.ensures.gives tells config (record_view c.args.self.now.meter.record) ready.between.holds) (g.met.B.Board.possible c.acknowledge.new.board tells)
+    (g.B.Board.trace c.hold.new.board) (g.B.Board.reads c.hold.new.board) c.in_ok-self-in-Metering.field-0
+    (c.in_ok-self-in-Metering.ensures.holds tells config (record_view c.args.self.now.meter.record) ready.between.holds)
+    (g.B.Board.trace c.acknowledge.new.board) (g.B.Board.reads c.acknowledge.new.board) (c.acknowledge.ensures.reads tells) (g.met.B.Board.possible c.acknowledge.new.board tells) c.acknowledge.result (c.acknowledge.ensures.shows tells)
 
 pub returns-in-Opt-clause-leads : goal.returns-in-Opt-clause-leads
 returns-in-Opt-clause-leads g c = λ tells config o script rest line after is ready first says.

@@ -1,0 +1,216 @@
+//! What the board over a file and standard input ask of their runtime, and what they make of its answers.
+use super::typed::Typed;
+use super::watched::Watched;
+use crate::*;
+use arrayvec::ArrayString;
+use std::test::Fail;
+use std::{fs, io};
+
+// Makes a file of this many zero bytes.
+fn make_zeros(rt: &HostRuntime, path: &str, len: u64) -> io::Result<()> {
+    fs::File::create(rt, path)?.set_len(len)
+}
+
+#[test]
+fn a_new_memory_and_its_name_are_settled_before_its_first_byte(
+    rt: HostRuntime,
+) -> Result<(), Fail> {
+    let path = "edge_new_memory.bin";
+    let _absent = fs::remove_file(&rt, path);
+    let watched = Watched::new(rt)?;
+    let mut board = FileBoard::at(&watched, path);
+    let mut into = [1; 2];
+    assert_eq!(&rt; board.load(16_382, &mut into), Ok(()));
+    assert_eq!(&rt; into, [0, 0]);
+    assert_eq!(&rt;
+        watched.calls().as_str(),
+        "open first; make; clone first; resize memory to 16384; sync memory; open folder; sync folder; seek 16382 in memory; read 2 of memory; "
+    );
+    assert_eq!(&rt; fs::metadata(&rt, path)?.len(), 16_384);
+    fs::remove_file(&rt, path)?;
+    Ok(())
+}
+
+// The calls that a store makes on a runtime where the call after `spared` fails, and what the store answers.
+fn store_byte(
+    rt: HostRuntime,
+    path: &str,
+    spared: u32,
+) -> io::Result<(ArrayString<1024>, Result<(), Refusal>)> {
+    let watched = Watched::new(rt)?;
+    watched.fail_after(spared);
+    let mut board = FileBoard::at(&watched, path);
+    let answer = board.store(0, &[1]);
+    Ok((watched.calls(), answer))
+}
+
+#[test]
+fn a_memory_that_can_not_be_made_whole_is_taken_away(rt: HostRuntime) -> Result<(), Fail> {
+    let path = "edge_failed_memory.bin";
+    let _absent = fs::remove_file(&rt, path);
+    for (spared, want) in [
+        (0, "open first; "),
+        (1, "open first; make; "),
+        (2, "open first; make; clone first; remove; "),
+        (
+            3,
+            "open first; make; clone first; resize memory to 16384; remove; ",
+        ),
+        (
+            4,
+            "open first; make; clone first; resize memory to 16384; sync memory; remove; ",
+        ),
+        (
+            5,
+            "open first; make; clone first; resize memory to 16384; sync memory; open folder; remove; ",
+        ),
+        (
+            6,
+            "open first; make; clone first; resize memory to 16384; sync memory; open folder; sync folder; remove; ",
+        ),
+    ] {
+        let (calls, answer) = store_byte(rt, path, spared)?;
+        assert_eq!(rt; calls.as_str(), want, "after {spared}");
+        assert_eq!(rt; answer, Err(Refusal::Failed), "after {spared}");
+        assert!(rt; !fs::exists(&rt, path)?, "after {spared}");
+    }
+    Ok(())
+}
+
+#[test]
+fn a_file_that_is_no_memory_or_fails_is_left(rt: HostRuntime) -> Result<(), Fail> {
+    let path = "edge_other_file.bin";
+    for (len, spared, want) in [
+        (0, 9, "open first; look at first; "),
+        (16_383, 9, "open first; look at first; "),
+        (16_385, 9, "open first; look at first; "),
+        (32_768, 9, "open first; look at first; "),
+        (16_384, 0, "open first; "),
+        (16_384, 1, "open first; look at first; "),
+        (16_384, 2, "open first; look at first; clone first; "),
+    ] {
+        make_zeros(&rt, path, len)?;
+        let (calls, answer) = store_byte(rt, path, spared)?;
+        assert_eq!(rt; calls.as_str(), want, "{len} bytes, after {spared}");
+        assert_eq!(rt; answer, Err(Refusal::Failed), "{len} bytes, after {spared}");
+        let bytes = fs::read(&rt, path)?;
+        assert_eq!(rt; bytes.len() as u64, len);
+        assert!(rt;
+            bytes.iter().all(|byte| *byte == 0),
+            "{len} bytes, after {spared}"
+        );
+    }
+    fs::remove_file(&rt, path)?;
+    Ok(())
+}
+
+#[test]
+fn each_byte_is_stored_however_short_the_writes(rt: HostRuntime) -> Result<(), Fail> {
+    let path = "edge_short_writes.bin";
+    make_zeros(&rt, path, 16_384)?;
+    let watched = Watched::new(rt)?;
+    watched.move_at_most(3);
+    let mut board = FileBoard::at(&watched, path);
+    assert_eq!(&rt; board.store(16_376, b"abcdefgh"), Ok(()));
+    assert_eq!(&rt;
+        watched.calls().as_str(),
+        "open first; look at first; clone first; seek 16376 in memory; write 8 to memory; write 5 to memory; write 2 to memory; "
+    );
+    assert!(&rt; fs::read(&rt, path)?.ends_with(b"\0abcdefgh"));
+    for spared in 0..3 {
+        watched.fail_after(spared);
+        assert_eq!(&rt;
+            board.store(0, b"ijkl"),
+            Err(Refusal::Failed),
+            "after {spared}"
+        );
+    }
+    watched.move_at_most(0);
+    assert_eq!(&rt; board.store(0, b"mnop"), Err(Refusal::Failed));
+    fs::remove_file(&rt, path)?;
+    Ok(())
+}
+
+#[test]
+fn what_was_stored_is_synced(rt: HostRuntime) -> Result<(), Fail> {
+    let path = "edge_sync.bin";
+    make_zeros(&rt, path, 16_384)?;
+    let watched = Watched::new(rt)?;
+    let mut board = FileBoard::at(&watched, path);
+    assert_eq!(&rt; board.store(7, b"abc"), Ok(()));
+    assert_eq!(&rt; board.sync(), Ok(()));
+    assert_eq!(&rt;
+        watched.calls().as_str(),
+        "open first; look at first; clone first; seek 7 in memory; write 3 to memory; sync memory; "
+    );
+    watched.fail_after(0);
+    assert_eq!(&rt; board.sync(), Err(Refusal::Failed));
+    assert_eq!(&rt; board.sync(), Ok(()));
+    assert_eq!(&rt; watched.calls().as_str(), "sync memory; sync memory; ");
+    fs::remove_file(&rt, path)?;
+    Ok(())
+}
+
+#[test]
+fn each_byte_is_loaded_however_short_the_reads(rt: HostRuntime) -> Result<(), Fail> {
+    let path = "edge_short_reads.bin";
+    make_zeros(&rt, path, 16_384)?;
+    let watched = Watched::new(rt)?;
+    let mut board = FileBoard::at(&watched, path);
+    assert_eq!(&rt; board.store(300, b"abcdefgh"), Ok(()));
+    let _opened = watched.calls();
+    watched.move_at_most(3);
+    let mut into = [0; 8];
+    assert_eq!(&rt; board.load(300, &mut into), Ok(()));
+    assert_eq!(&rt; into, *b"abcdefgh");
+    assert_eq!(&rt;
+        watched.calls().as_str(),
+        "seek 300 in memory; read 8 of memory; read 5 of memory; read 2 of memory; "
+    );
+    for spared in 0..3 {
+        watched.fail_after(spared);
+        assert_eq!(&rt; board.load(300, &mut into), Err(Failed), "after {spared}");
+    }
+    watched.move_at_most(0);
+    assert_eq!(&rt; board.load(300, &mut into), Err(Failed));
+    fs::remove_file(&rt, path)?;
+    Ok(())
+}
+
+#[test]
+fn each_byte_is_put_however_short_the_writes(rt: HostRuntime) -> Result<(), Fail> {
+    let watched = Watched::new(rt)?;
+    let mut board = FileBoard::at(&watched, "edge_no_memory.bin");
+    assert_eq!(&rt; board.put(b"ok 1 30\n"), Ok(()));
+    assert_eq!(&rt; watched.calls().as_str(), "put \"ok 1 30\\n\"; ");
+    watched.move_at_most(3);
+    assert_eq!(&rt; board.put(b"ok 2 40\n"), Ok(()));
+    assert_eq!(&rt;
+        watched.calls().as_str(),
+        "put \"ok 2 40\\n\"; put \"2 40\\n\"; put \"0\\n\"; "
+    );
+    for spared in 0..3 {
+        watched.fail_after(spared);
+        assert_eq!(&rt; board.put(b"ok 3 50\n"), Err(Failed), "after {spared}");
+    }
+    watched.move_at_most(0);
+    assert_eq!(&rt; board.put(b"ok 3 50\n"), Err(Failed));
+    Ok(())
+}
+
+#[test]
+fn what_was_read_is_told_as_it_is(rt: HostRuntime) {
+    let typed = Typed {
+        text: b"pulse 3\n",
+        piece: 5,
+        spared: 1,
+    };
+    let mut source = StdSource::new(&typed);
+    let mut into = [0; 16];
+    assert_eq!(rt; source.read(&mut into), Ok(5));
+    assert!(rt; into.starts_with(b"pulse"));
+    assert_eq!(rt; source.read(&mut into), Err(Failed));
+    assert_eq!(rt; source.read(&mut into), Ok(3));
+    assert!(rt; into.starts_with(b" 3\n"));
+    assert_eq!(rt; source.read(&mut into), Ok(0));
+}

@@ -1,0 +1,79 @@
+-- The lines of `read`.
+use Rattle.std.specs.Prelude.{◌≡◌, ℕ, ◌^◌, ◌<◌, ◌≤◌, ℤ, pos, Bool, true, false, List, [], ◌∷◌, ◌++◌, codes}
+use Rattle.std.specs.Fmt.{decimal, signed_decimal}
+use Rattle.std.specs.List.{All}
+use Rattle.calendar_model.specs.Texts.{IsDayText}
+use Rattle.display_model.specs.Display.{eight_digits}
+use Rattle.heat_model.specs.Heat.{Place, Flow, Return}
+use Rattle.reading_model.specs.Fields.{Kind, Energy, Volume, FlowTemp, ReturnTemp, Difference, Date, Reading, Telegram}
+
+-- ---- telegrams
+
+-- the number of a day of 2000 to 2099
+abbrev pub IsDayNumber : ℤ → Type 0
+IsDayNumber value = (day : ℕ) × (value ≡ pos day) × (day ≤ 36524)
+
+-- a date's value is one
+abbrev pub IsDated : Reading → Type 0
+IsDated r = r.kind ≡ Date → IsDayNumber r.value
+
+-- what a telegram says has lines: a serial number of eight digits, letters in ASCII, and dates
+pub record IsReadable (t : Telegram) : Type 0 where
+  pub serial : t.serial < 10 ^ 8
+  pub maker : All (λ letter. letter < 128) t.maker
+  pub dated : All IsDated t.records
+
+-- the pipe in which the flow sensor sits
+abbrev pub place_word : Place → List ℕ
+place_word Flow = codes "flow"
+place_word Return = codes "return"
+
+-- the lines before those of the records, the serial number in eight digits
+abbrev pub header_lines : Telegram → List (List ℕ)
+header_lines t =
+    (codes "serial " ++ eight_digits t.serial ++ codes "\n")
+    ∷ (codes "maker " ++ t.maker ++ codes "\n")
+    ∷ (codes "version " ++ decimal t.version ++ codes "\n")
+    ∷ (codes "medium " ++ place_word t.place ++ codes "\n")
+    ∷ (codes "address " ++ decimal t.address ++ codes "\n")
+    ∷ (codes "access " ++ decimal t.access ++ codes "\n")
+    ∷ (codes "status " ++ decimal t.status ++ codes "\n")
+    ∷ []
+
+-- `S NAME N X`: the storage number, the value, and the power of ten of its unit
+abbrev pub value_line : (name : List ℕ) → Reading → List ℕ
+value_line name r =
+    decimal r.storage ++ codes " " ++ name ++ codes " " ++ signed_decimal r.value ++ codes " " ++ signed_decimal r.exp ++ codes "\n"
+
+-- `S date YYYY-MM-DD`
+pub record IsDateLine (r : Reading) (line : List ℕ) : Type 0 where
+  pub number : ℕ
+  pub day : List ℕ
+  pub dated : r.value ≡ pos number
+  pub text : IsDayText number day
+  pub is : line ≡ decimal r.storage ++ codes " date " ++ day ++ codes "\n"
+
+abbrev pub IsLineOf : Kind → Reading → List ℕ → Type 0
+IsLineOf Energy r line = line ≡ value_line (codes "energy") r
+IsLineOf Volume r line = line ≡ value_line (codes "volume") r
+IsLineOf FlowTemp r line = line ≡ value_line (codes "flow") r
+IsLineOf ReturnTemp r line = line ≡ value_line (codes "return") r
+IsLineOf Difference r line = line ≡ value_line (codes "difference") r
+IsLineOf Date r line = IsDateLine r line
+
+-- one line for each record, in their order
+abbrev pub AreRecordLines : List Reading → List (List ℕ) → Type 0
+AreRecordLines [] lines = lines ≡ []
+AreRecordLines (r ∷ rs) [] = ⊥
+AreRecordLines (r ∷ rs) (line ∷ lines) = IsLineOf r.kind r line × AreRecordLines rs lines
+
+-- `more` where a further telegram follows
+abbrev pub more_lines : Bool → List (List ℕ)
+more_lines true = codes "more\n" ∷ []
+more_lines false = []
+
+-- the lines of a telegram
+pub record AreTelegramLines (t : Telegram) (lines : List (List ℕ)) : Type 0 where
+  pub records : List (List ℕ)
+  pub records_are : AreRecordLines t.records records
+  pub are : lines ≡ (header_lines t ++ records) ++ more_lines t.more

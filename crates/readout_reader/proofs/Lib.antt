@@ -1,0 +1,6 @@
+mod Onwards
+mod Wholes
+mod Written
+mod Entering
+mod Same
+mod Sized

@@ -1,0 +1,11 @@
+pub mod Order
+pub mod Convex
+pub mod Terms
+pub mod Sums
+pub mod Quotients
+pub mod Derived
+pub mod Rooms
+pub mod Segments
+pub mod Joining
+pub mod Warmer
+pub mod Metered

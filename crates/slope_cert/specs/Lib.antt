@@ -1,0 +1,3 @@
+pub mod Curvature
+pub mod Sizes
+pub mod Meters
