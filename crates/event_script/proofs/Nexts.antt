@@ -1,5 +1,7 @@
 -- What is answered for the first line of the bytes that are held, and of those that are left behind them.
-use Rattle.std.proofs.Common.{◌≡◌, ℕ, ◌+◌, ◌<◌, ◌≤◌, ◌⊎◌, inl, inr, true, List, [], ◌∷◌, ◌++◌, take, drop, length, refl, arith, sym, ap, ◌∙◌, subst, append_assoc, length-append}
+use Rattle.std.proofs.Common.{◌≡◌, ℕ, ◌+◌, ◌<◌, ◌≤◌, inl, inr, true, false, List, [], ◌∷◌, ◌++◌, Option, None, Some, take, drop, length, refl, arith, sym, ap, ◌∙◌, subst, append_assoc, length-append}
+use Rattle.std.specs.Prelude.{MatchOption}
+use Rattle.std.specs.Option.{is_some}
 use Rattle.std.proofs.lemmas.List.{nil_from_length}
 use Rattle.std.proofs.Math.Seq.{take-length}
 use Rattle.std.proofs.Math.ListN.{drop_of_length-le}
@@ -78,3 +80,8 @@ ends_all held held' taken now left mid bytes left' is first then_ none empty gon
     let held_none : length (now ++ bytes) ≡ 0 = ap length empty in
     let size : length now ≡ 0 = omega (arith, held_none, length-append now bytes) in
     (nil_from_length (held ++ left) (omega (arith, length-append held left, ap length first, length-append taken mid, ap length none, size, ap length is, length-append held taken)), (λ i. gone i ++ rest i))
+
+-- where nothing is decided, the line is open
+pub undecided : (n : ℕ) (bytes : List ℕ) (decided : Option ℕ) → is_some decided ≡ false → MatchOption decided (is_open n bytes ≡ true) (Decides n bytes) → is_open n bytes ≡ true
+undecided n bytes None none is = is
+undecided n bytes (Some len) none is = absurd cc

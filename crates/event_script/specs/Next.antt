@@ -5,7 +5,6 @@ use Rattle.script_model.specs.Lines.{after_line, lines_of}
 use Rattle.script_model.specs.Grammar as grammar
 use Rattle.script_model.specs.Grammar.{line_of}
 use Rattle.journal_model.specs.Faults.{Command, fault_of, has_no_end, is_open, max_line_len, max_lines}
-use Rattle.event_script.specs.declared.Line.{Line}
 use Rattle.event_script.specs.declared.LineFault.{LineFault}
 use Rattle.event_script.specs.declared.next.Next.{Next}
 use Rattle.event_script.specs.declared.next.Next.TheVariants.{Got, Bad, End, ReadFault}

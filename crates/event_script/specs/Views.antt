@@ -7,7 +7,7 @@ use Rattle.journal_model.specs.Faults as faults
 use Rattle.event_script.specs.declared.Event.{Event}
 use Rattle.event_script.specs.declared.Event.TheVariants.{Sample, Pulse, Date}
 use Rattle.event_script.specs.declared.Line.{Line}
-use Rattle.event_script.specs.declared.Line.TheVariants.{Metering, Opt, Mbus}
+use Rattle.event_script.specs.declared.Line.TheVariants.{Metering, Power, Cut, Opt, Mbus}
 use Rattle.event_script.specs.declared.Grammar.{Grammar}
 use Rattle.event_script.specs.declared.LineFault.{LineFault}
 use Rattle.event_script.specs.declared.LineFault.TheVariants as refused
@@ -19,6 +19,8 @@ event_view (Date day) = events.Date day.number
 
 abbrev pub line_view : Line → grammar.Line
 line_view (Metering event) = grammar.Metering (event_view event)
+line_view Power = grammar.Power
+line_view (Cut n keep fill) = grammar.Cut n keep fill
 line_view (Opt message) = grammar.Opt message.items
 line_view (Mbus message) = grammar.Mbus message.items
 
@@ -41,9 +43,11 @@ IsEvent (Sample rf rr) = Unit {0}
 IsEvent (Pulse n) = (1 ≤ n) × (n ≤ 1000000000000000)
 IsEvent (Date day) = Unit {0}
 
--- a message has 1 byte at least
+-- a cut is within the first call or a later one, and keeps no more than the memory has; a message has 1 byte at least
 abbrev pub IsInRange : Line → Type 0
 IsInRange (Metering event) = IsEvent event
+IsInRange Power = Unit {0}
+IsInRange (Cut n keep fill) = (1 ≤ n) × (keep ≤ 16384)
 IsInRange (Opt message) = 1 ≤ length message.items
 IsInRange (Mbus message) = 1 ≤ length message.items
 

@@ -36,6 +36,11 @@ pub enum Event {
 pub enum Line {
     /// A metering event.
     Metering(Event),
+    /// The power fails.
+    Power,
+    /// A cut of the power is ordered: within the `n`-th store or sync from now on, 1 to 65,535. Of that store the first
+    /// `keep` bytes are written, at most 16,384, and the byte `fill` in the place of each other one.
+    Cut { n: u16, keep: u16, fill: u8 },
     /// A message to the optical head.
     Opt(Message),
     /// Bytes on the M-Bus.
@@ -70,7 +75,7 @@ pub enum LineFault {
     /// The line stands behind a million lines.
     #[error("too many")]
     TooMany,
-    /// The line is a readout, which a run without a memory doesn't have.
+    /// The line is a readout, a failure of the power or the order of one, which a run without a memory doesn't have.
     #[error("not in dry")]
     NotDry,
 }

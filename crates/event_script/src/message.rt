@@ -1,7 +1,7 @@
-//! Messages in hexadecimal.
+//! Words in hexadecimal: messages, and single bytes.
 ghost use Rattle.std.specs.Prelude.{◌≡◌, ◌≤◌, IfSome, length};
 ghost use Rattle.std.specs.Option.{option_map};
-ghost use Rattle.script_model.specs.Hex.{hex_in};
+ghost use Rattle.script_model.specs.Hex.{byte_in, hex_in};
 
 use arrayvec::ArrayVec;
 
@@ -23,4 +23,15 @@ pub fn message_word(word: &[u8]) -> Option<Message>
     let bytes = &mut room[..word.len() / 2];
     hex::decode_to_slice(word, bytes).ok()?;
     ArrayVec::try_from(&*bytes).ok()
+}
+
+/// The byte that a word says, where it is two hexadecimal digits of either case.
+pub fn byte_word(word: &[u8]) -> Option<u8>
+    ensures { result ≡ byte_in word.now }
+{
+    let mut byte = [0];
+    match hex::decode_to_slice(word, &mut byte) {
+        Ok(()) => Some(byte[0]),
+        Err(_) => None,
+    }
 }

@@ -1,13 +1,13 @@
 //! What a line says.
 ghost use Rattle.std.specs.Prelude.{◌≡◌, ◌≤◌, length, Ok, Err, IfOk, MatchResult};
 ghost use Rattle.std.specs.Option.{ForSome, option_map};
-ghost use Rattle.script_model.specs.Grammar.{line_of, sample_line, pulse_line, date_line, opt_line, mbus_line, word_at, end_at};
+ghost use Rattle.script_model.specs.Grammar.{line_of, sample_line, pulse_line, date_line, power_line, cut_line, opt_line, mbus_line, word_at, end_at};
 ghost use Rattle.script_model.specs.Numbers.{number_in};
-ghost use Rattle.script_model.specs.Hex.{hex_in};
+ghost use Rattle.script_model.specs.Hex.{byte_in, hex_in};
 ghost use Rattle.event_script.specs.Views.{IsInRange, Reads, line_view, rest_words};
 
 use crate::date::date_word;
-use crate::message::{Message, message_word};
+use crate::message::{Message, byte_word, message_word};
 use crate::number::number_word;
 use crate::words::split_word;
 use crate::{Event, Grammar, Line};
@@ -17,6 +17,12 @@ const MAX_SAMPLE: u64 = 4_294_967_295;
 
 /// The most pulses of one line.
 const MAX_PULSES: u64 = 1_000_000_000_000_000;
+
+/// The latest store or sync, counted from a `cut` line on, that it can name.
+const MAX_CALLS: u64 = 65_535;
+
+/// The bytes of the memory.
+const MEMORY_SIZE: u64 = 16_384;
 
 /// Reads a line of a script, without its LF. It has at most 120 bytes.
 ///
@@ -34,6 +40,10 @@ pub fn read_line(line: &[u8]) -> Result<Line, Grammar>
         read_pulse(words)
     } else if name == b"date".as_slice() {
         read_date(words)
+    } else if name == b"power".as_slice() {
+        read_power(words)
+    } else if name == b"cut".as_slice() {
+        read_cut(words)
     } else if name == b"opt".as_slice() {
         read_opt(words)
     } else if name == b"mbus".as_slice() {
@@ -78,6 +88,26 @@ fn read_date(words: Option<&[u8]>) -> Result<Line, Grammar>
     whole_line(words, 2, Line::Metering(Event::Date { day }))
 }
 
+// `power`, from the word after the name on.
+fn read_power(words: Option<&[u8]>) -> Result<Line, Grammar>
+    ensures range { IfOk result IsInRange }
+    ensures said { Reads result (power_line (rest_words (option_map (λ r. r.now) words.entry))) }
+{
+    whole_line(words, 1, Line::Power)
+}
+
+// `cut N KEEP FILL`, from the word after the name on.
+fn read_cut(words: Option<&[u8]>) -> Result<Line, Grammar>
+    ensures range { IfOk result IsInRange }
+    ensures said { Reads result (cut_line (rest_words (option_map (λ r. r.now) words.entry))) }
+{
+    let (n, words) = number_at(words, 1, 1, MAX_CALLS)?;
+    let (keep, words) = number_at(words, 2, 0, MEMORY_SIZE)?;
+    let (fill, words) = byte_at(words, 3)?;
+    let (n, keep) = (n as u16, keep as u16);
+    whole_line(words, 4, Line::Cut { n, keep, fill })
+}
+
 // `opt HEX`, from the word after the name on.
 fn read_opt(words: Option<&[u8]>) -> Result<Line, Grammar>
     requires { ForSome words (λ rest. length rest.now ≤ 116) }
@@ -117,6 +147,23 @@ fn number_at(
     let (word, words) = split_word(rest);
     match number_word(word, low, high) {
         Some(n) => Ok((n, words)),
+        None => Err(Grammar { at }),
+    }
+}
+
+// The byte that the word at a place says, and what follows that word.
+fn byte_at(words: Option<&[u8]>, at: u8) -> Result<(u8, Option<&[u8]>), Grammar>
+    ensures { MatchResult result
+        (λ b. word_at at byte_in (rest_words (option_map (λ r. r.now) words.entry))
+        ≡ Ok (b.0, rest_words (option_map (λ r. r.now) b.1)))
+        (λ e. word_at at byte_in (rest_words (option_map (λ r. r.now) words.entry)) ≡ Err e.at) }
+{
+    let Some(rest) = words else {
+        return Err(Grammar { at });
+    };
+    let (word, words) = split_word(rest);
+    match byte_word(word) {
+        Some(byte) => Ok((byte, words)),
         None => Err(Grammar { at }),
     }
 }
@@ -188,6 +235,46 @@ mod tests {
         assert_eq!(rt; read_line(b"date 2023-02-29"), Err(Grammar { at: 1 }));
         assert_eq!(rt; read_line(b"date 2024-2-29"), Err(Grammar { at: 1 }));
         assert_eq!(rt; read_line(b"date 2024-01-15 x"), Err(Grammar { at: 2 }));
+    }
+
+    #[test]
+    fn failures_of_the_power_are_read(rt: HostRuntime) {
+        assert_eq!(rt; read_line(b"power"), Ok(Line::Power));
+        assert_eq!(rt; read_line(b"power 1"), Err(Grammar { at: 1 }));
+        assert_eq!(rt; read_line(b"power "), Err(Grammar { at: 1 }));
+        assert_eq!(rt; read_line(b"powers"), Err(Grammar { at: 0 }));
+    }
+
+    #[test]
+    fn orders_of_cuts_are_read(rt: HostRuntime) {
+        for (line, n, keep, fill) in [
+            (b"cut 1 7 5A".as_slice(), 1, 7, 0x5A),
+            (b"cut 3 0 a5".as_slice(), 3, 0, 0xA5),
+            (b"cut 65535 16384 fF".as_slice(), 65_535, 16_384, 0xFF),
+        ] {
+            assert_eq!(rt; read_line(line), Ok(Line::Cut { n, keep, fill }));
+        }
+    }
+
+    #[test]
+    fn words_that_order_no_cut_are_refused(rt: HostRuntime) {
+        for (line, at) in [
+            (b"cut".as_slice(), 1),
+            (b"cut 0 0 00".as_slice(), 1),
+            (b"cut 65536 0 00".as_slice(), 1),
+            (b"cut 1".as_slice(), 2),
+            (b"cut 1 16385 00".as_slice(), 2),
+            (b"cut 1 -1 00".as_slice(), 2),
+            (b"cut 1 0".as_slice(), 3),
+            (b"cut 1 0 ".as_slice(), 3),
+            (b"cut 1 0 0".as_slice(), 3),
+            (b"cut 1 0 000".as_slice(), 3),
+            (b"cut 1 0 0000".as_slice(), 3),
+            (b"cut 1 0 0g".as_slice(), 3),
+            (b"cut 1 0 00 1".as_slice(), 4),
+        ] {
+            assert_eq!(rt; read_line(line), Err(Grammar { at }));
+        }
     }
 
     #[test]

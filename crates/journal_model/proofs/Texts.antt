@@ -9,7 +9,7 @@ use Rattle.metering_model.specs.Settings.{Settings}
 use Rattle.metering_model.specs.Records.{MeterRecord, litres_of}
 use Rattle.trace_model.specs.Output.{ends_line}
 use Rattle.trace_model.proofs.Lines.{no_lf, no_lf-append, no_lf_above, no_lf_both, ends_line-append_lf, front_of_line}
-use Rattle.journal_model.specs.Texts.{mbus_text, ok_text, opt_text, readout_text, reply_shown, shown}
+use Rattle.journal_model.specs.Texts.{armed_text, mbus_text, ok_text, opt_text, power_text, readout_text, reply_shown, shown}
 
 -- numbers that are printed without trouble
 pub record IsPrintable (c : Settings) (r : MeterRecord) : Type 0 where
@@ -61,6 +61,18 @@ one_line-append_lf xs none = record {
 
 pub one_line-ok_text : (c : Settings) (r : MeterRecord) → IsPrintable c r → IsOneLine (ok_text c r)
 one_line-ok_text c r p = one_line-append_lf (codes "ok " ++ shown c r) (no_lf-shown c r p)
+
+-- the line of a recovered record
+pub one_line-power_text : (c : Settings) (r : MeterRecord) → IsPrintable c r → IsOneLine (power_text c r)
+one_line-power_text c r p =
+    let seq : no_lf (decimal r.seq) ≡ true = no_lf-decimal _ p.seq in
+    let litres : no_lf (decimal (litres_of c r.register)) ≡ true = no_lf-decimal _ p.litres in
+    let energy : no_lf (signed_decimal r.register.energy_mj) ≡ true = no_lf-signed _ p.energy in
+    let bound : no_lf (decimal r.register.bound_mj) ≡ true = no_lf-decimal _ p.bound in
+    one_line-append_lf (codes "power " ++ shown c r) (simp (no_lf-append, seq, litres, energy, bound) refl)
+
+pub one_line-armed_text : IsOneLine armed_text
+one_line-armed_text = one_line-append_lf (codes "armed") refl
 
 -- ---- the texts of readouts
 

@@ -6,7 +6,7 @@ use Rattle.script_model.proofs.Worked.{january_14, january_15}
 use Rattle.metering_model.specs.Settings.{Settings}
 use Rattle.metering_model.specs.Records.{MeterRecord, opening_record}
 use Rattle.journal_model.specs.Faults.{Dry, Run, Grammar, EventsFull, DateBack, PulsesFull, TooLong, TooMany, NotDry, fault_of}
-use Rattle.journal_model.specs.Texts.{ok_text, opt_text, mbus_text}
+use Rattle.journal_model.specs.Texts.{ok_text, power_text, armed_text, opt_text, mbus_text}
 
 -- the record of a new meter on 2024-01-15
 abbrev opening : MeterRecord
@@ -47,11 +47,33 @@ events_full = refl
 full_before_day : fault_of Run (record opening { seq = 1000000000000000000 }) 0 (codes "date 2024-01-14") ≡ Some (EventsFull 1000000000000000000)
 full_before_day = refl
 
+-- which is no fault of a line that is no event
 readout_of_full : fault_of Run (record opening { seq = 1000000000000000000 }) 0 (codes "mbus E5") ≡ None
 unfolding decode_pairs
 readout_of_full = refl
 
--- a dry run has no readouts; one that is malformed is so first
+power_of_full : fault_of Run (record opening { seq = 1000000000000000000 }) 0 (codes "power") ≡ None
+power_of_full = refl
+
+cut_of_full : fault_of Run (record opening { seq = 1000000000000000000 }) 0 (codes "cut 1 7 5A") ≡ None
+unfolding decode_pairs
+cut_of_full = refl
+
+-- a dry run has no failures of the power and no readouts; a line that is malformed is so first
+power_in_dry : fault_of Dry opening 0 (codes "power") ≡ Some NotDry
+power_in_dry = refl
+
+cut_in_dry : fault_of Dry opening 0 (codes "cut 1 7 5A") ≡ Some NotDry
+unfolding decode_pairs
+cut_in_dry = refl
+
+malformed_power_in_dry : fault_of Dry opening 0 (codes "power 1") ≡ Some (Grammar 1)
+malformed_power_in_dry = refl
+
+malformed_cut_in_dry : fault_of Dry opening 0 (codes "cut 1 16385 00") ≡ Some (Grammar 2)
+unfolding decode_pairs
+malformed_cut_in_dry = refl
+
 readout_in_dry : fault_of Dry opening 0 (codes "opt 2F3F210D0A") ≡ Some NotDry
 unfolding decode_pairs
 readout_in_dry = refl
@@ -100,6 +122,21 @@ energy_below_0 c ten = rw ten refl
 just_below_0 : (c : Settings) → c.litres_per_pulse ≡ 10 → ok_text c (after_pulses (negsuc 0)) ≡ codes "ok 12 1030 -1 2060000\n"
 unfolding digits
 just_below_0 c ten = rw ten refl
+
+recovered : (c : Settings) → c.litres_per_pulse ≡ 10 → power_text c (after_pulses (pos 41303818149)) ≡ codes "power 12 1030 41303818149 2060000\n"
+unfolding digits
+recovered c ten = rw ten refl
+
+nothing_recovered : (c : Settings) → c.litres_per_pulse ≡ 10 → power_text c opening ≡ codes "power 0 0 0 0\n"
+unfolding digits
+nothing_recovered c ten = rw ten refl
+
+recovered_below_0 : (c : Settings) → c.litres_per_pulse ≡ 10 → power_text c (after_pulses (negsuc 0)) ≡ codes "power 12 1030 -1 2060000\n"
+unfolding digits
+recovered_below_0 c ten = rw ten refl
+
+ordered : armed_text ≡ 97 ∷ 114 ∷ 109 ∷ 101 ∷ 100 ∷ 10 ∷ []
+ordered = refl
 
 acknowledged : mbus_text (after_pulses (pos 0)) (Some (0xe5 ∷ [])) ≡ codes "mbus 12 e5\n"
 unfolding digits encode_with

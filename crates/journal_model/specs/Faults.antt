@@ -2,9 +2,9 @@
 use Rattle.std.specs.Prelude.{ℕ, ◌+◌, ◌==◌, Bool, true, cond, not, ◌&&◌, ◌||◌, nat_lt, nat_le, List, [], ◌∷◌, length, Option, None, Some, Result, Ok, Err}
 use Rattle.metering_model.specs.Events.{Event, Sample, Pulse, Date}
 use Rattle.metering_model.specs.Records.{MeterRecord}
-use Rattle.script_model.specs.Grammar.{Line, Metering, Opt, Mbus, line_of, max_pulses}
+use Rattle.script_model.specs.Grammar.{Line, Metering, Power, Cut, Opt, Mbus, line_of, max_pulses}
 
--- the commands that take a script: `dry` has no memory, and is not read out
+-- the commands that take a script: `dry` has no memory, so no power fails under it, and is not read out
 pub data Command : Type 0 where
   Dry : Command
   Run : Command
@@ -20,7 +20,7 @@ pub data Fault : Type 0 where
   PulsesFull : (sum : ℕ) → Fault
   TooLong : Fault
   TooMany : Fault
-  -- a readout, which `dry` doesn't have
+  -- a readout, a failure of the power or the order of one, which `dry` doesn't have
   NotDry : Fault
 
 abbrev pub max_lines : ℕ
@@ -42,14 +42,17 @@ kind_fault r (Date day) = cond (nat_lt day r.day) (Some (DateBack r.day)) None
 abbrev pub event_fault : MeterRecord → Event → Option Fault
 event_fault r event = cond (r.seq == max_events) (Some (EventsFull r.seq)) (kind_fault r event)
 
-abbrev pub readout_fault : Command → Option Fault
-readout_fault Dry = Some NotDry
-readout_fault Run = None
+-- why a line that is no metering event is refused
+abbrev pub dry_fault : Command → Option Fault
+dry_fault Dry = Some NotDry
+dry_fault Run = None
 
 abbrev pub said_fault : Command → MeterRecord → Result Line ℕ → Option Fault
 said_fault command r (Ok (Metering event)) = event_fault r event
-said_fault command r (Ok (Opt message)) = readout_fault command
-said_fault command r (Ok (Mbus bytes)) = readout_fault command
+said_fault command r (Ok Power) = dry_fault command
+said_fault command r (Ok (Cut n keep fill)) = dry_fault command
+said_fault command r (Ok (Opt message)) = dry_fault command
+said_fault command r (Ok (Mbus bytes)) = dry_fault command
 said_fault command r (Err place) = Some (Grammar place)
 
 -- why the line after n lines is refused, where r is the record in force

@@ -17,6 +17,14 @@ shown c r = decimal r.seq ++ codes " " ++ register_shown c.litres_per_pulse r.re
 abbrev pub ok_text : Settings → MeterRecord → List ℕ
 ok_text c r = codes "ok " ++ shown c r ++ codes "\n"
 
+-- the line that tells what was recovered after a power failure, where r is the record recovered
+abbrev pub power_text : Settings → MeterRecord → List ℕ
+power_text c r = codes "power " ++ shown c r ++ codes "\n"
+
+-- the line that acknowledges the order of a cut
+abbrev pub armed_text : List ℕ
+armed_text = codes "armed\n"
+
 -- the bytes of a reply in hexadecimal, or `-` where there is none
 abbrev pub reply_shown : Option (List ℕ) → List ℕ
 reply_shown None = codes "-"

@@ -1,3 +1,4 @@
+pub mod TearLemmas
 pub mod ToldLemmas
 pub mod ReadLemmas
 pub mod Stretches

@@ -3,7 +3,7 @@ use Rattle.std.proofs.Common.{◌≡◌, ℕ, ◌≤◌, List, [], ◌∷◌, �
 use Rattle.std.proofs.Math.Seq.{take-nil}
 use Rattle.std.proofs.lemmas.List.{nil_from_length, take_all, take-append-le, drop-append-le, take-append-drop, append-nil, length-drop}
 use Rattle.std.proofs.lemmas.List.Sums.{sum_by-cons}
-use Rattle.trace_model.specs.Trace.{Store, Sync, Missed, Put, Trace, ◌▷◌}
+use Rattle.trace_model.specs.Trace.{Store, Sync, Missed, Put, Arm, Cut, Trace, ◌▷◌}
 use Rattle.trace_model.specs.Output.{output_of}
 use Rattle.meter_board.specs.declared.mark.Mark.{Mark}
 use Rattle.meter_board.specs.declared.mark.Mark.TheVariants as marks
@@ -14,6 +14,8 @@ entry_from (marks.Store at len) stored output more more' le le' = ap (λ (l : Li
 entry_from marks.Sync stored output more more' le le' = refl
 entry_from marks.Missed stored output more more' le le' = refl
 entry_from (marks.Put len) stored output more more' le le' = ap (λ (l : List ℕ). Put l) (take-append-le len output more' le')
+entry_from (marks.Arm n keep fill) stored output more more' le le' = refl
+entry_from (marks.Cut forced len) stored output more more' le le' = ap (λ (l : List ℕ). Cut forced l) (take-append-le len stored more le)
 
 pub told-push : (t : Trace) (ms : List Mark) (stored output : List ℕ) (m : Mark) (more more' : List ℕ) → stored_by ms ≡ length stored → put_by ms ≡ length output → told t (ms ++ m ∷ []) (stored ++ more) (output ++ more') ≡ told t ms stored output ▷ entry_of m more more'
 told-push t [] stored output m more more' whole whole' =
@@ -40,6 +42,10 @@ output_of-told t (marks.Sync ∷ ms) stored output whole =
     output_of-told (t ▷ Sync) ms stored output (omega (arith, whole, sum_by-cons put_of marks.Sync ms)) ∙ ap (λ l. l ++ output) (append-nil (output_of t))
 output_of-told t (marks.Missed ∷ ms) stored output whole =
     output_of-told (t ▷ Missed) ms stored output (omega (arith, whole, sum_by-cons put_of marks.Missed ms)) ∙ ap (λ l. l ++ output) (append-nil (output_of t))
+output_of-told t (marks.Arm n keep fill ∷ ms) stored output whole =
+    output_of-told (t ▷ Arm n keep fill) ms stored output (omega (arith, whole, sum_by-cons put_of (marks.Arm n keep fill) ms)) ∙ ap (λ l. l ++ output) (append-nil (output_of t))
+output_of-told t (marks.Cut forced n ∷ ms) stored output whole =
+    output_of-told (t ▷ Cut forced (take n stored)) ms (drop n stored) output (omega (arith, whole, sum_by-cons put_of (marks.Cut forced n) ms)) ∙ ap (λ l. l ++ output) (append-nil (output_of t))
 
 -- a put, and any other entry
 pub put_told : (t : Trace) (ms : List Mark) (stored output : List ℕ) (len : ℕ) (bytes : List ℕ) → stored_by ms ≡ length stored → put_by ms ≡ length output → len ≡ length bytes → told t (ms ++ marks.Put len ∷ []) stored (output ++ bytes) ≡ told t ms stored output ▷ Put bytes
@@ -52,6 +58,8 @@ kept_with : (m : Mark) (bytes : List ℕ) → put_of m ≡ 0 → size_of m ≡ l
 kept_with (marks.Store at len) bytes kept size = ap (λ (l : List ℕ). Store at l) (take_all len bytes (omega (arith, size)))
 kept_with marks.Sync bytes kept size = refl
 kept_with marks.Missed bytes kept size = refl
+kept_with (marks.Arm n keep fill) bytes kept size = refl
+kept_with (marks.Cut forced len) bytes kept size = ap (λ (l : List ℕ). Cut forced l) (take_all len bytes (omega (arith, size)))
 kept_with (marks.Put len) bytes kept size = ap (λ (l : List ℕ). Put l) (take-nil len ∙ sym (nil_from_length bytes (omega (arith, kept, size))))
 
 pub kept_told : (t : Trace) (ms : List Mark) (stored output : List ℕ) (m : Mark) (bytes : List ℕ) → stored_by ms ≡ length stored → put_by ms ≡ length output → put_of m ≡ 0 → size_of m ≡ length bytes → told t (ms ++ m ∷ []) (stored ++ bytes) output ≡ told t ms stored output ▷ entry_with m bytes

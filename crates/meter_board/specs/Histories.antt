@@ -11,3 +11,8 @@ history_trace h = told (Start h.base.items) h.marks.items h.stored.items h.outpu
 pub record HistoryHasRoom (h : History) (count : ℕ) : Type 0 where
   pub entries : vec_len h.marks < h.entry_room
   pub bytes : vec_len h.stored + vec_len h.output + count ≤ h.byte_room
+
+-- two entries of so many bytes together fit
+pub record HistoryHasRoomForTwo (h : History) (count : ℕ) : Type 0 where
+  pub entries : vec_len h.marks + 2 ≤ h.entry_room
+  pub bytes : vec_len h.stored + vec_len h.output + count ≤ h.byte_room

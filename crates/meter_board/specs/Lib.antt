@@ -2,6 +2,7 @@ pub mod Causes
 pub mod Reads
 pub mod Puts
 pub mod Stores
+pub mod Tears
 pub mod Slice
 pub mod Told
 pub mod Histories

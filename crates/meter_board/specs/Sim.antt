@@ -1,13 +1,16 @@
 -- What a contract sees of a board in memory.
-use Rattle.std.specs.Prelude.{◌≡◌, ℕ, ◌+◌, ◌-◌, ◌/◌, ◌^◌, List, Any, length, take, min}
+use Rattle.std.specs.Prelude.{◌≡◌, ℕ, ◌+◌, ◌-◌, ◌/◌, ◌^◌, Bool, true, false, List, Any, length, take, min, Result, Ok, Err}
 use Rattle.trace_model.specs.Trace.{Entry, Store, Sync, Missed, Put, Arm, Cut, Trace, ◌▷◌}
+use Rattle.meter_board.specs.declared.arm.Armed.{Armed}
+use Rattle.meter_board.specs.declared.refusal.Refusal.{Refusal}
+use Rattle.meter_board.specs.declared.refusal.Refusal.TheVariants as refusals
 use Rattle.meter_board.specs.declared.sim_board.Call.{Call}
 use Rattle.meter_board.specs.declared.sim_board.CallKind.{CallKind}
 use Rattle.meter_board.specs.declared.sim_board.CallKind.TheVariants as kind
 use Rattle.meter_board.specs.declared.sim_board.SimBoard.{SimBoard}
 use Rattle.meter_board.specs.declared.sim_board.Output.{Output}
 use Rattle.meter_board.specs.Causes.{one_more}
-use Rattle.meter_board.specs.Histories.{HistoryHasRoom, history_trace}
+use Rattle.meter_board.specs.Histories.{HistoryHasRoom, HistoryHasRoomForTwo, history_trace}
 
 abbrev pub sim_trace : SimBoard → Trace
 sim_trace b = history_trace b.history
@@ -22,9 +25,9 @@ sim_memory_faults b = b.memory_faults
 abbrev pub sim_output_faults : SimBoard → ℕ
 sim_output_faults b = b.output_faults
 
--- its power never fails
+-- how many calls were cut
 abbrev pub sim_cuts : SimBoard → ℕ
-sim_cuts b = 0
+sim_cuts b = b.cuts
 
 -- how many calls there were of each kind
 abbrev pub sim_loads : SimBoard → ℕ
@@ -39,9 +42,19 @@ sim_syncs b = b.syncs
 abbrev pub sim_puts : SimBoard → ℕ
 sim_puts b = b.puts
 
+abbrev pub sim_arms : SimBoard → ℕ
+sim_arms b = b.arms
+
+abbrev pub sim_powers : SimBoard → ℕ
+sim_powers b = b.powers
+
 -- how many there were on the memory, up to the end of the count's type
 abbrev pub sim_memory_calls : SimBoard → ℕ
-sim_memory_calls b = min (sim_loads b + sim_stores b + sim_syncs b) (2 ^ 64 - 1)
+sim_memory_calls b = min (sim_loads b + sim_stores b + sim_syncs b + sim_arms b + sim_powers b) (2 ^ 64 - 1)
+
+-- the cut that waits for its call
+abbrev pub sim_armed : SimBoard → Armed
+sim_armed b = b.armed
 
 -- the calls that fail
 abbrev pub sim_failing : SimBoard → List Call
@@ -83,9 +96,42 @@ FailsSync b = IsFailing b kind.Sync (one_more (sim_syncs b))
 abbrev pub FailsPut : SimBoard → Type 0
 FailsPut b = IsFailing b kind.Put (one_more (sim_puts b))
 
+abbrev pub FailsPower : SimBoard → Type 0
+FailsPower b = IsFailing b kind.Power (one_more (sim_powers b))
+
+-- the next call of `store` or `sync` is cut, where it does not fail
+abbrev pub IsDue : SimBoard → Type 0
+IsDue b = (sim_armed b).calls ≡ 1
+
+-- what waits after one more call of `store` or `sync`, one that failed or was cut too
+abbrev pub counted : Armed → Armed
+counted a = record a { calls = a.calls - 1 }
+
+-- the memory failed
+abbrev pub has_failed : {T : Type 0} → Result T Refusal → Bool
+has_failed (Ok x) = false
+has_failed (Err refusals.Failed) = true
+has_failed (Err refusals.Cut) = false
+
+-- the power was cut
+abbrev pub was_cut : {T : Type 0} → Result T Refusal → Bool
+was_cut (Ok x) = false
+was_cut (Err refusals.Failed) = false
+was_cut (Err refusals.Cut) = true
+
 -- a call that adds this entry succeeds: the entry fits, and the call is not one that fails
 pub record Adds (b : SimBoard) (e : Entry) (fails : Type 0) : Type 0 where
   pub room : HasRoom b e
+  pub whole : fails → ⊥
+
+-- the power is cut, which adds one entry: an image fits, and the call is not one that fails
+pub record AddsCut (b : SimBoard) (fails : Type 0) : Type 0 where
+  pub room : HistoryHasRoom b.history 16384
+  pub whole : fails → ⊥
+
+-- the power is cut within a store of these bytes: both entries fit, and the call is not one that fails
+pub record AddsCutStore (b : SimBoard) (bytes : List ℕ) (fails : Type 0) : Type 0 where
+  pub room : HistoryHasRoomForTwo b.history (length bytes + 16384)
   pub whole : fails → ⊥
 
 -- the trace after a call that failed: where the call is one that fails it added this entry, where there was room for it
@@ -104,16 +150,19 @@ pub record RoomsAsBefore (old new : SimBoard) : Type 0 where
   pub entry_room : sim_entry_room new ≡ sim_entry_room old
   pub byte_room : sim_byte_room new ≡ sim_byte_room old
 
--- all but the calls that fail
+-- all but the calls that fail, and the cut that waits
 pub record BoardAsBefore (old new : SimBoard) : Type 0 where
   pub trace : sim_trace new ≡ sim_trace old
   pub reads : sim_reads new ≡ sim_reads old
   pub memory_faults : sim_memory_faults new ≡ sim_memory_faults old
   pub output_faults : sim_output_faults new ≡ sim_output_faults old
+  pub cuts : sim_cuts new ≡ sim_cuts old
   pub loads : sim_loads new ≡ sim_loads old
   pub stores : sim_stores new ≡ sim_stores old
   pub syncs : sim_syncs new ≡ sim_syncs old
   pub puts : sim_puts new ≡ sim_puts old
+  pub arms : sim_arms new ≡ sim_arms old
+  pub powers : sim_powers new ≡ sim_powers old
   pub entry_room : sim_entry_room new ≡ sim_entry_room old
   pub byte_room : sim_byte_room new ≡ sim_byte_room old
 

@@ -1,6 +1,6 @@
--- What a store and a sync do to the trace, and to what the memory reads.
-use Rattle.std.specs.Prelude.{◌≡◌, ◌⊎◌, ℕ, List, true, length, Result, Ok, Err}
-use Rattle.trace_model.specs.Trace.{Store, Sync, Missed, Cut, Trace, ◌▷◌}
+-- What the calls that write do to the trace, and to what the memory reads.
+use Rattle.std.specs.Prelude.{◌≡◌, ◌⊎◌, ℕ, List, true, false, length, Result, Ok, Err}
+use Rattle.trace_model.specs.Trace.{Store, Sync, Missed, Arm, Cut, Trace, ◌▷◌}
 use Rattle.trace_model.specs.Images.{IsImage, SameOutside, replaced}
 use Rattle.meter_board.specs.declared.refusal.Refusal.{Refusal}
 use Rattle.meter_board.specs.declared.refusal.Refusal.TheVariants as refusals
@@ -18,3 +18,13 @@ abbrev pub SyncGives : {T : Type 0} → Trace → List ℕ → Result T Refusal 
 SyncGives t reads (Ok x) t' reads' = (t' ≡ t ▷ Sync) × (reads' ≡ reads)
 SyncGives t reads (Err refusals.Failed) t' reads' = ((t' ≡ t) ⊎ (t' ≡ t ▷ Missed)) × (reads' ≡ reads)
 SyncGives t reads (Err refusals.Cut) t' reads' = (t' ≡ t ▷ Cut true reads') × IsImage t reads'
+
+-- Ok: a cut is ordered. Failed: nothing happened.
+abbrev pub ArmGives : {T E : Type 0} → ℕ → ℕ → ℕ → Trace → Result T E → Trace → Type 0
+ArmGives n keep fill t (Ok x) t' = t' ≡ t ▷ Arm n keep fill
+ArmGives n keep fill t (Err e) t' = t' ≡ t
+
+-- Ok: the power was cut, and left an image that is possible then. Failed: nothing happened.
+abbrev pub PowerGives : {T E : Type 0} → Trace → List ℕ → Result T E → Trace → List ℕ → Type 0
+PowerGives t reads (Ok x) t' reads' = (t' ≡ t ▷ Cut false reads') × IsImage t reads'
+PowerGives t reads (Err e) t' reads' = (t' ≡ t) × (reads' ≡ reads)

@@ -3,7 +3,7 @@ ghost use Rattle.trace_model.specs.Trace.{Trace, base_of};
 ghost use Rattle.trace_model.specs.Images.{IsImage};
 ghost use Rattle.meter_board.specs.Causes.{HasCause, HasCauses, one_more};
 ghost use Rattle.meter_board.specs.Puts.{PutGives};
-ghost use Rattle.meter_board.specs.Stores.{StoreGives, SyncGives};
+ghost use Rattle.meter_board.specs.Stores.{ArmGives, PowerGives, StoreGives, SyncGives};
 
 use crate::{Failed, Refusal};
 
@@ -28,7 +28,7 @@ pub trait Board {
     /// How many puts have failed, up to 2^64 - 1.
     ghost output_faults: { Self → ℕ };
 
-    /// How many calls on the memory were cut by a power failure, up to 2^64 - 1.
+    /// How many calls on the memory were cut by a power failure, up to 2^64 - 1. A call of [`Board::power`] is none of these.
     ghost cuts: { Self → ℕ };
 
     /// Reads the bytes of the memory from `at` on into `into`.
@@ -80,6 +80,32 @@ pub trait Board {
         ensures cause { HasCause (output_faults self.old) (output_faults self.new) result }
         ensures memory_faults { memory_faults self.old ≤ memory_faults self.new }
         ensures cuts { cuts self.old ≤ cuts self.new };
+
+    /// Orders a cut of the power: within the n-th call of [`Board::store`] or [`Board::sync`] from now on, of whose
+    /// range the first `keep` bytes are written then, and `fill` stands in the others. A new order takes the place of
+    /// one that waits.
+    ///
+    /// # Errors
+    /// [`Failed`] where the memory failed: nothing was ordered, and the count of memory faults rose.
+    fn arm(&mut self, n: u16, keep: u16, fill: u8) -> Result<(), Failed>
+        requires { 1 ≤ n }
+        ensures memory_calls { memory_calls self.new ≡ one_more (memory_calls self.old) }
+        ensures gives { tells → ArmGives n keep fill (trace self.old) result (trace self.new) }
+        ensures reads { tells → reads self.new ≡ reads self.old }
+        ensures cause { HasCause (memory_faults self.old) (memory_faults self.new) result }
+        ensures output_faults { output_faults self.old ≤ output_faults self.new }
+        ensures cuts { cuts self.new ≡ cuts self.old };
+
+    /// Cuts the power now.
+    ///
+    /// # Errors
+    /// [`Failed`] where the memory failed: the power was not cut, and the count of memory faults rose.
+    fn power(&mut self) -> Result<(), Failed>
+        ensures memory_calls { memory_calls self.new ≡ one_more (memory_calls self.old) }
+        ensures gives { tells → PowerGives (trace self.old) (reads self.old) result (trace self.new) (reads self.new) }
+        ensures cause { HasCause (memory_faults self.old) (memory_faults self.new) result }
+        ensures output_faults { output_faults self.old ≤ output_faults self.new }
+        ensures cuts { cuts self.new ≡ cuts self.old };
 
     /// The memory had its size when the board was handed in.
     ghost whole: { (board : Self) → tells → length (base_of (trace board)) ≡ 16384 };

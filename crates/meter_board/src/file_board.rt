@@ -1,7 +1,8 @@
 //! A board over a file and standard output.
-ghost use Rattle.std.specs.Prelude.{◌≡◌};
-ghost use Rattle.meter_board.specs.Causes.{one_more};
+ghost use Rattle.std.specs.Prelude.{◌≡◌, ◌+◌, ◌≤◌, length};
+ghost use Rattle.meter_board.specs.Causes.{HasCauses, one_more};
 
+use crate::arm::{Armed, Span};
 use crate::counts::raise;
 use crate::{Board, Failed, Refusal};
 use std::fs::{File, OpenFile, OpenOptions};
@@ -26,6 +27,11 @@ pub struct FileBoard<'a, R: Files + Print> {
     memory_calls: u64,
     memory_faults: u64,
     output_faults: u64,
+    cuts: u64,
+    armed: Armed,
+    // The range of the last store since the last sync or cut, an empty one where there is none.
+    last: Span,
+    ghost last_fits: { last.at + last.len ≤ 16384 },
 }
 
 impl<'a, R: Files + Print> FileBoard<'a, R> {
@@ -35,6 +41,7 @@ impl<'a, R: Files + Print> FileBoard<'a, R> {
         ensures memory_calls { result.memory_calls ≡ 0 }
         ensures memory_faults { result.memory_faults ≡ 0 }
         ensures output_faults { result.output_faults ≡ 0 }
+        ensures cuts { result.cuts ≡ 0 }
     {
         FileBoard {
             rt,
@@ -43,6 +50,9 @@ impl<'a, R: Files + Print> FileBoard<'a, R> {
             memory_calls: 0,
             memory_faults: 0,
             output_faults: 0,
+            cuts: 0,
+            armed: Armed::default(),
+            last: Span::default(),
         }
     }
 
@@ -51,6 +61,7 @@ impl<'a, R: Files + Print> FileBoard<'a, R> {
         ensures memory_calls { self.new.memory_calls ≡ one_more self.old.memory_calls }
         ensures memory_faults { self.new.memory_faults ≡ self.old.memory_faults }
         ensures output_faults { self.new.output_faults ≡ self.old.output_faults }
+        ensures cuts { self.new.cuts ≡ self.old.cuts }
     {
         raise(&mut self.memory_calls);
         match self.file.take() {
@@ -63,6 +74,7 @@ impl<'a, R: Files + Print> FileBoard<'a, R> {
         ensures memory_calls { self.new.memory_calls ≡ one_more self.old.memory_calls }
         ensures memory_faults { self.new.memory_faults ≡ self.old.memory_faults }
         ensures output_faults { self.new.output_faults ≡ self.old.output_faults }
+        ensures cuts { self.new.cuts ≡ self.old.cuts }
     {
         let mut file = self.take_file()?;
         let answer = read_whole(&mut file, at, into);
@@ -74,6 +86,7 @@ impl<'a, R: Files + Print> FileBoard<'a, R> {
         ensures memory_calls { self.new.memory_calls ≡ one_more self.old.memory_calls }
         ensures memory_faults { self.new.memory_faults ≡ self.old.memory_faults }
         ensures output_faults { self.new.output_faults ≡ self.old.output_faults }
+        ensures cuts { self.new.cuts ≡ self.old.cuts }
     {
         let mut file = self.take_file()?;
         let answer = write_whole(&mut file, at, bytes);
@@ -81,10 +94,55 @@ impl<'a, R: Files + Print> FileBoard<'a, R> {
         answer
     }
 
+    // Writes these bytes, and the fill of the cut in so many places behind them, and settles them.
+    fn tear_at(&mut self, at: u32, kept: &[u8], others: usize) -> io::Result<()>
+        requires { at + (length kept.now + others) ≤ 16384 }
+        ensures memory_calls { self.new.memory_calls ≡ one_more self.old.memory_calls }
+        ensures memory_faults { self.new.memory_faults ≡ self.old.memory_faults }
+        ensures output_faults { self.new.output_faults ≡ self.old.output_faults }
+        ensures cuts { self.new.cuts ≡ self.old.cuts }
+    {
+        let mut file = self.take_file()?;
+        let answer = tear_whole(&mut file, at, kept, others, self.armed.fill);
+        self.file = Some(file);
+        answer
+    }
+
+    // What a call answers whose range was to be torn.
+    fn cut(&mut self, torn: io::Result<()>) -> Result<(), Refusal>
+        ensures memory_calls { self.new.memory_calls ≡ self.old.memory_calls }
+        ensures causes { HasCauses self.old.memory_faults self.new.memory_faults self.old.cuts self.new.cuts result }
+        ensures output_faults { self.new.output_faults ≡ self.old.output_faults }
+    {
+        match torn {
+            Ok(()) => {
+                self.last = Span::default();
+                raise(&mut self.cuts);
+                Err(Refusal::Cut)
+            }
+            Err(_) => {
+                raise(&mut self.memory_faults);
+                Err(Refusal::Failed)
+            }
+        }
+    }
+
+    // Opens the file where it is not open.
+    fn reach(&mut self) -> io::Result<()>
+        ensures memory_calls { self.new.memory_calls ≡ one_more self.old.memory_calls }
+        ensures memory_faults { self.new.memory_faults ≡ self.old.memory_faults }
+        ensures output_faults { self.new.output_faults ≡ self.old.output_faults }
+        ensures cuts { self.new.cuts ≡ self.old.cuts }
+    {
+        self.file = Some(self.take_file()?);
+        Ok(())
+    }
+
     fn write_back(&mut self) -> io::Result<()>
         ensures memory_calls { self.new.memory_calls ≡ one_more self.old.memory_calls }
         ensures memory_faults { self.new.memory_faults ≡ self.old.memory_faults }
         ensures output_faults { self.new.output_faults ≡ self.old.output_faults }
+        ensures cuts { self.new.cuts ≡ self.old.cuts }
     {
         let file = self.take_file()?;
         let answer = file.sync_all();
@@ -173,6 +231,24 @@ fn write_whole<F: Write + Seek>(file: &mut F, at: u32, bytes: &[u8]) -> io::Resu
     Ok(())
 }
 
+// Writes these bytes from a place on, and this byte in so many places behind them, and settles them.
+fn tear_whole<F: OpenFile + Write + Seek>(
+    file: &mut F,
+    at: u32,
+    kept: &[u8],
+    others: usize,
+    fill: u8,
+) -> io::Result<()>
+    requires { at + (length kept.now + others) ≤ 16384 }
+{
+    write_whole(file, at, kept)?;
+    let from = at + kept.len() as u32;
+    for place in 0..others {
+        write_whole(file, from + place as u32, &[fill])?;
+    }
+    file.sync_all()
+}
+
 impl<R: Files + Print> Board for FileBoard<'_, R> {
     ghost use Rattle.std.specs.Prelude.{[]};
     ghost use Rattle.trace_model.specs.Trace.{Start};
@@ -189,7 +265,7 @@ impl<R: Files + Print> Board for FileBoard<'_, R> {
 
     ghost output_faults = { λ b. b.output_faults };
 
-    ghost cuts = { λ _. 0 };
+    ghost cuts = { λ b. b.cuts };
 
     fn load(&mut self, at: u32, into: &mut [u8]) -> Result<(), Failed> {
         match self.read_at(at, into) {
@@ -202,8 +278,17 @@ impl<R: Files + Print> Board for FileBoard<'_, R> {
     }
 
     fn store(&mut self, at: u32, bytes: &[u8]) -> Result<(), Refusal> {
+        let len = bytes.len();
+        if self.armed.count() {
+            let kept = len.min(self.armed.keep as usize);
+            let torn = self.tear_at(at, &bytes[..kept], len - kept);
+            return self.cut(torn);
+        }
         match self.write_at(at, bytes) {
-            Ok(()) => Ok(()),
+            Ok(()) => {
+                self.last = Span { at, len };
+                Ok(())
+            }
             Err(_) => {
                 raise(&mut self.memory_faults);
                 Err(Refusal::Failed)
@@ -212,8 +297,16 @@ impl<R: Files + Print> Board for FileBoard<'_, R> {
     }
 
     fn sync(&mut self) -> Result<(), Refusal> {
+        if self.armed.count() {
+            let kept = self.last.len.min(self.armed.keep as usize);
+            let torn = self.tear_at(self.last.at + kept as u32, &[], self.last.len - kept);
+            return self.cut(torn);
+        }
         match self.write_back() {
-            Ok(()) => Ok(()),
+            Ok(()) => {
+                self.last = Span::default();
+                Ok(())
+            }
             Err(_) => {
                 raise(&mut self.memory_faults);
                 Err(Refusal::Failed)
@@ -233,6 +326,36 @@ impl<R: Files + Print> Board for FileBoard<'_, R> {
             }
         }
         Ok(())
+    }
+
+    fn arm(&mut self, n: u16, keep: u16, fill: u8) -> Result<(), Failed> {
+        match self.reach() {
+            Ok(()) => {
+                self.armed = Armed {
+                    calls: n,
+                    keep,
+                    fill,
+                };
+                Ok(())
+            }
+            Err(_) => {
+                raise(&mut self.memory_faults);
+                Err(Failed)
+            }
+        }
+    }
+
+    fn power(&mut self) -> Result<(), Failed> {
+        match self.reach() {
+            Ok(()) => {
+                self.last = Span::default();
+                Ok(())
+            }
+            Err(_) => {
+                raise(&mut self.memory_faults);
+                Err(Failed)
+            }
+        }
     }
 
     ghost whole = { λ _ tells. absurd tells };

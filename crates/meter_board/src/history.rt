@@ -1,6 +1,6 @@
 //! The trace of a board, kept in memory.
-ghost use Rattle.std.specs.Prelude.{◌≡◌, ◌+◌, ◌<◌, ◌≤◌, ◌↔◌, [], false, length, vec_len, vec_capacity, IfOk, IsTrue};
-ghost use Rattle.trace_model.specs.Trace.{Start, ◌▷◌};
+ghost use Rattle.std.specs.Prelude.{◌≡◌, ◌+◌, ◌<◌, ◌≤◌, ◌↔◌, [], true, false, length, vec_len, vec_capacity, IfOk, IsTrue};
+ghost use Rattle.trace_model.specs.Trace.{Start, Store, Cut, ◌▷◌};
 ghost use Rattle.trace_model.specs.Output.{output_of};
 ghost use Rattle.meter_board.specs.Told.{entry_with, put_by, size_of, stored_by};
 
@@ -12,7 +12,7 @@ use std::alloc::{AllocError, Global};
 pub struct History {
     pub base: Vec<u8>,
     pub marks: Vec<Mark>,
-    /// The bytes of all stores, in order.
+    /// The bytes of all stores and the images of all cuts, in order.
     pub stored: Vec<u8>,
     /// The bytes of all puts, in order.
     pub output: Vec<u8>,
@@ -27,7 +27,7 @@ pub struct History {
 }
 
 impl History {
-    ghost use Rattle.meter_board.specs.Histories.{HistoryHasRoom, history_trace};
+    ghost use Rattle.meter_board.specs.Histories.{HistoryHasRoom, HistoryHasRoomForTwo, history_trace};
 
     /// Nothing has happened to this memory, and there is room for so many entries, with so many bytes together.
     ///
@@ -54,7 +54,8 @@ impl History {
         })
     }
 
-    fn has_room(&self, count: usize) -> bool
+    /// Whether there is room for an entry with so many bytes.
+    pub fn has_room(&self, count: usize) -> bool
         ensures { IsTrue result ↔ HistoryHasRoom self.now count }
     {
         self.marks.len() < self.entry_room
@@ -63,12 +64,21 @@ impl History {
             && count <= self.byte_room - self.stored.len() - self.output.len()
     }
 
+    /// Whether there is room for two entries with so many bytes together.
+    pub fn has_room_for_two(&self, count: usize) -> bool
+        ensures { IsTrue result ↔ HistoryHasRoomForTwo self.now count }
+    {
+        self.has_room(count) && self.entry_room - self.marks.len() >= 2
+    }
+
     /// Adds an entry with its bytes where there is room for it. Else answers false, and changes nothing.
     pub fn add(&mut self, mark: Mark, bytes: &[u8]) -> bool
         requires { size_of mark ≡ length bytes.now }
         ensures room { IsTrue result ↔ HistoryHasRoom self.old (length bytes.now) }
         ensures added { IsTrue result → history_trace self.new ≡ history_trace self.old ▷ entry_with mark bytes.now }
         ensures full { result ≡ false → self.new ≡ self.old }
+        ensures entries { IsTrue result → vec_len self.new.marks ≡ vec_len self.old.marks + 1 }
+        ensures bytes { IsTrue result → vec_len self.new.stored + vec_len self.new.output ≡ vec_len self.old.stored + vec_len self.old.output + length bytes.now }
         ensures entry_room { self.new.entry_room ≡ self.old.entry_room }
         ensures byte_room { self.new.byte_room ≡ self.old.byte_room }
     {
@@ -78,11 +88,28 @@ impl History {
         self.marks.push(mark).unwrap();
         match mark {
             Mark::Put { .. } => self.output.extend_from_slice(bytes).unwrap(),
-            Mark::Store { .. } | Mark::Sync | Mark::Missed => {
-                self.stored.extend_from_slice(bytes).unwrap();
-            }
+            Mark::Store { .. } | Mark::Sync | Mark::Missed | Mark::Arm { .. } | Mark::Cut { .. } =>
+                {
+                    self.stored.extend_from_slice(bytes).unwrap();
+                }
         }
         true
+    }
+
+    /// Adds a store of these bytes that was cut, and left this image. There is room for both entries.
+    pub fn add_cut_store(&mut self, at: u32, bytes: &[u8], image: &[u8])
+        requires { HistoryHasRoomForTwo self.old (length bytes.now + length image.now) }
+        ensures added { history_trace self.new ≡ history_trace self.old ▷ Store at bytes.now ▷ Cut true image.now }
+        ensures entry_room { self.new.entry_room ≡ self.old.entry_room }
+        ensures byte_room { self.new.byte_room ≡ self.old.byte_room }
+    {
+        let len = bytes.len();
+        self.add(Mark::Store { at, len }, bytes);
+        let cut = Mark::Cut {
+            forced: true,
+            len: image.len(),
+        };
+        self.add(cut, image);
     }
 
     /// The bytes of all puts, in order.

@@ -4,6 +4,7 @@
 //! memory, which tell all that happens to them, and of standard input and files, which tell nothing.
 #![tactic(auto)]
 
+mod arm;
 mod board;
 mod counts;
 mod file_board;

@@ -5,4 +5,6 @@ pub enum Mark {
     Sync,
     Missed,
     Put { len: usize },
+    Arm { n: u16, keep: u16, fill: u8 },
+    Cut { forced: bool, len: usize },
 }

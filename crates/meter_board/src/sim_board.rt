@@ -1,15 +1,17 @@
 //! A board in memory.
-ghost use Rattle.std.specs.Prelude.{◌≡◌, ◌+◌, ◌<◌, ◌≤◌, ◌↔◌, [], ◌∷◌, ◌++◌, false, length, take, drop, IfOk, OnOk, OnErr, IsOk, is_err, if◌then◌else◌, IsTrue, Any};
+ghost use Rattle.std.specs.Prelude.{◌≡◌, ◌+◌, ◌<◌, ◌≤◌, ◌↔◌, [], ◌∷◌, ◌++◌, true, false, length, take, drop, IfOk, OnOk, OnErr, IsOk, IsErrOf, is_err, if◌then◌else◌, IsTrue, Any};
 ghost use Rattle.std.specs.Iterator.{YieldsFirst, item_count};
 ghost use Rattle.std.proofs.Props.{props};
-ghost use Rattle.trace_model.specs.Trace.{Start, Store, Sync, Missed, Put};
+ghost use Rattle.trace_model.specs.Trace.{Start, Store, Sync, Missed, Put, Arm, Cut, ◌▷◌};
 ghost use Rattle.trace_model.specs.Output.{output_of};
-ghost use Rattle.trace_model.specs.Images.{IsImage, replaced, written};
+ghost use Rattle.trace_model.specs.Images.{IsImage, pending, replaced, written};
 ghost use Rattle.meter_board.specs.Causes.{HasCause, HasCauses, one_more};
 ghost use Rattle.meter_board.specs.Puts.{PutGives};
-ghost use Rattle.meter_board.specs.Stores.{StoreGives, SyncGives};
-ghost use Rattle.meter_board.specs.Histories.{history_trace};
+ghost use Rattle.meter_board.specs.Stores.{ArmGives, PowerGives, StoreGives, SyncGives};
+ghost use Rattle.meter_board.specs.Tears.{last_at, last_len, last_torn, torn};
+ghost use Rattle.meter_board.specs.Histories.{HistoryHasRoom, HistoryHasRoomForTwo, history_trace};
 
+use crate::arm::{Armed, Span, tear};
 use crate::counts::raise;
 use crate::history::History;
 use crate::mark::Mark;
@@ -45,17 +47,26 @@ pub struct SimBoard {
     memory: Vec<u8>,
     memory_faults: u64,
     output_faults: u64,
+    cuts: u64,
     loads: u64,
     stores: u64,
     syncs: u64,
     puts: u64,
+    arms: u64,
+    powers: u64,
+    armed: Armed,
+    // The range of the last store since the last sync or cut, an empty one where there is none.
+    last: Span,
     failing: ArrayVec<Call, MAX_FAILING>,
     ghost newest: { memory.items ≡ written (history_trace history) },
     ghost possible: { IsImage (history_trace history) memory.items } by { Prim.hlevel props },
+    ghost last_place: { last.at ≡ last_at (pending (history_trace history)) },
+    ghost last_size: { last.len ≡ last_len (pending (history_trace history)) },
+    ghost last_fits: { last.at + last.len ≤ 16384 },
 }
 
 impl SimBoard {
-    ghost use Rattle.meter_board.specs.Sim.{BoardAsBefore, IsFailing, output_left, sim_trace, sim_reads, sim_memory_faults, sim_output_faults, sim_loads, sim_stores, sim_syncs, sim_puts, sim_failing, sim_entry_room, sim_byte_room};
+    ghost use Rattle.meter_board.specs.Sim.{BoardAsBefore, IsFailing, output_left, sim_trace, sim_reads, sim_memory_faults, sim_output_faults, sim_cuts, sim_loads, sim_stores, sim_syncs, sim_puts, sim_arms, sim_powers, sim_armed, sim_failing, sim_entry_room, sim_byte_room};
 
     /// A board over this image of its memory, with room for so many entries of its trace, and for so many
     /// bytes in them together.
@@ -73,10 +84,14 @@ impl SimBoard {
         ensures reads { IfOk result (λ b. sim_reads b ≡ image.now) }
         ensures memory_faults { IfOk result (λ b. sim_memory_faults b ≡ 0) }
         ensures output_faults { IfOk result (λ b. sim_output_faults b ≡ 0) }
+        ensures cuts { IfOk result (λ b. sim_cuts b ≡ 0) }
         ensures loads { IfOk result (λ b. sim_loads b ≡ 0) }
         ensures stores { IfOk result (λ b. sim_stores b ≡ 0) }
         ensures syncs { IfOk result (λ b. sim_syncs b ≡ 0) }
         ensures puts { IfOk result (λ b. sim_puts b ≡ 0) }
+        ensures arms { IfOk result (λ b. sim_arms b ≡ 0) }
+        ensures powers { IfOk result (λ b. sim_powers b ≡ 0) }
+        ensures armed { IfOk result (λ b. sim_armed b ≡ record { calls = 0; keep = 0; fill = 0 }) }
         ensures failing { IfOk result (λ b. sim_failing b ≡ []) }
         ensures entry_room { IfOk result (λ b. sim_entry_room b ≡ entries) }
         ensures byte_room { IfOk result (λ b. sim_byte_room b ≡ bytes) }
@@ -86,10 +101,15 @@ impl SimBoard {
             memory: Vec::from_slice(alloc, image)?,
             memory_faults: 0,
             output_faults: 0,
+            cuts: 0,
             loads: 0,
             stores: 0,
             syncs: 0,
             puts: 0,
+            arms: 0,
+            powers: 0,
+            armed: Armed::default(),
+            last: Span::default(),
             failing: ArrayVec::new(),
         })
     }
@@ -119,12 +139,27 @@ impl SimBoard {
         ensures held { IsTrue result → sim_failing self.new ≡ sim_failing self.old ++ record { kind = kind; number = number } ∷ [] }
         ensures full { (result ≡ false) → self.new ≡ self.old }
         ensures same { BoardAsBefore self.old self.new }
+        ensures armed { sim_armed self.new ≡ sim_armed self.old }
     {
         if self.failing.is_full() {
             return false;
         }
         self.failing.push(Call { kind, number });
         true
+    }
+
+    /// Lets the n-th call of `store` or `sync` from now on be cut, as [`Board::arm`] does, but for the entry.
+    pub fn cut_on(&mut self, n: u16, keep: u16, fill: u8)
+        requires { 1 ≤ n }
+        ensures armed { sim_armed self.new ≡ record { calls = n; keep = keep; fill = fill } }
+        ensures same { BoardAsBefore self.old self.new }
+        ensures failing { sim_failing self.new ≡ sim_failing self.old }
+    {
+        self.armed = Armed {
+            calls: n,
+            keep,
+            fill,
+        };
     }
 
     // The call of this kind and number is one that fails.
@@ -143,8 +178,71 @@ fn overwrite(memory: &mut Vec<u8>, at: usize, bytes: &[u8])
     memory[at..at + bytes.len()].copy_from_slice(bytes);
 }
 
+// Tears this range of a memory.
+fn tear_at(memory: &mut Vec<u8>, range: Span, armed: Armed)
+    requires { range.at + range.len ≤ length memory.old.items }
+    ensures { memory.new.items ≡ replaced memory.old.items range.at (torn armed.keep armed.fill (take range.len (drop range.at memory.old.items))) }
+{
+    let from = range.at as usize;
+    tear(
+        &mut memory[from..from + range.len],
+        armed.keep as usize,
+        armed.fill,
+    );
+}
+
+// Cuts the power within a store of these bytes, where there is room for both entries. Else answers false, and changes
+// nothing.
+fn cut_store(
+    history: &mut History,
+    memory: &mut Vec<u8>,
+    armed: Armed,
+    at: u32,
+    bytes: &[u8],
+) -> bool
+    requires whole { length memory.old.items ≡ 16384 }
+    requires fits { at + length bytes.now ≤ 16384 }
+    ensures room { IsTrue result ↔ HistoryHasRoomForTwo history.old (length bytes.now + 16384) }
+    ensures torn { IsTrue result → memory.new.items ≡ replaced memory.old.items at (torn armed.keep armed.fill bytes.now) }
+    ensures added { IsTrue result → history_trace history.new ≡ history_trace history.old ▷ Store at bytes.now ▷ Cut true memory.new.items }
+    ensures same_trace { result ≡ false → history_trace history.new ≡ history_trace history.old }
+    ensures same_memory { result ≡ false → memory.new.items ≡ memory.old.items }
+    ensures entry_room { history.new.entry_room ≡ history.old.entry_room }
+    ensures byte_room { history.new.byte_room ≡ history.old.byte_room }
+{
+    let len = bytes.len();
+    if !history.has_room_for_two(len + memory.len()) {
+        return false;
+    }
+    overwrite(memory, at as usize, bytes);
+    tear_at(memory, Span { at, len }, armed);
+    history.add_cut_store(at, bytes, memory);
+    true
+}
+
+// Cuts the power within a sync, where there is room for the entry. Else answers false, and changes nothing.
+fn cut_sync(history: &mut History, memory: &mut Vec<u8>, armed: Armed, last: Span) -> bool
+    requires whole { length memory.old.items ≡ 16384 }
+    requires fits { last.at + last.len ≤ 16384 }
+    ensures room { IsTrue result ↔ HistoryHasRoom history.old 16384 }
+    ensures torn { IsTrue result → memory.new.items ≡ replaced memory.old.items last.at (torn armed.keep armed.fill (take last.len (drop last.at memory.old.items))) }
+    ensures added { IsTrue result → history_trace history.new ≡ history_trace history.old ▷ Cut true memory.new.items }
+    ensures same_trace { result ≡ false → history_trace history.new ≡ history_trace history.old }
+    ensures same_memory { result ≡ false → memory.new.items ≡ memory.old.items }
+    ensures entry_room { history.new.entry_room ≡ history.old.entry_room }
+    ensures byte_room { history.new.byte_room ≡ history.old.byte_room }
+{
+    let len = memory.len();
+    if !history.has_room(len) {
+        return false;
+    }
+    tear_at(memory, last, armed);
+    history.add(Mark::Cut { forced: true, len }, memory);
+    true
+}
+
 impl Board for SimBoard {
-    ghost use Rattle.meter_board.specs.Sim.{Adds, FailsAsTold, FailsLoad, FailsPut, FailsStore, FailsSync, RoomsAsBefore, half_of, sim_trace, sim_reads, sim_memory_calls, sim_memory_faults, sim_output_faults, sim_cuts, sim_loads, sim_stores, sim_syncs, sim_puts};
+    ghost use Rattle.meter_board.specs.Sim.{Adds, AddsCut, AddsCutStore, FailsAsTold, FailsLoad, FailsPower, FailsPut, FailsStore, FailsSync, HasRoom, IsDue, RoomsAsBefore, counted, half_of, has_failed, was_cut, sim_trace, sim_reads, sim_memory_calls, sim_memory_faults, sim_output_faults, sim_cuts, sim_loads, sim_stores, sim_syncs, sim_puts, sim_arms, sim_powers, sim_armed};
     ghost use Rattle.meter_board.specs.SimLaws.{sim_whole};
 
     ghost tells = { Unit {0} };
@@ -170,12 +268,16 @@ impl Board for SimBoard {
         ensures reads { Unit {0} → sim_reads self.new ≡ sim_reads self.old }
         ensures cause { HasCause (sim_memory_faults self.old) (sim_memory_faults self.new) result }
         ensures output_faults { sim_output_faults self.new ≡ sim_output_faults self.old }
+        ensures cuts { sim_cuts self.new ≡ sim_cuts self.old }
         ensures ok { IsOk result ↔ ¬ FailsLoad self.old }
         ensures memory_faults { sim_memory_faults self.new ≡ (if is_err result then one_more (sim_memory_faults self.old) else sim_memory_faults self.old) }
         ensures loads { sim_loads self.new ≡ one_more (sim_loads self.old) }
         ensures stores { sim_stores self.new ≡ sim_stores self.old }
         ensures syncs { sim_syncs self.new ≡ sim_syncs self.old }
         ensures puts { sim_puts self.new ≡ sim_puts self.old }
+        ensures arms { sim_arms self.new ≡ sim_arms self.old }
+        ensures powers { sim_powers self.new ≡ sim_powers self.old }
+        ensures armed { sim_armed self.new ≡ sim_armed self.old }
         ensures rooms { RoomsAsBefore self.old self.new }
     {
         raise(&mut self.loads);
@@ -189,28 +291,44 @@ impl Board for SimBoard {
         Ok(())
     }
 
-    /// Every store counts, one that fails too. It fails where there is no room, and where it is one that fails,
-    /// and stores nothing then.
+    /// Every store counts, one that fails too, for a cut that waits too. It fails where there is no room, and where it
+    /// is one that fails, and stores nothing then. A store that is cut needs room for both its entries.
     fn store(&mut self, at: u32, bytes: &[u8]) -> Result<(), Refusal>
         requires { at + length bytes.now ≤ 16384 }
         ensures memory_calls { sim_memory_calls self.new ≡ one_more (sim_memory_calls self.old) }
         ensures gives { Unit {0} → StoreGives at bytes.now (sim_trace self.old) (sim_reads self.old) result (sim_trace self.new) (sim_reads self.new) }
         ensures causes { HasCauses (sim_memory_faults self.old) (sim_memory_faults self.new) (sim_cuts self.old) (sim_cuts self.new) result }
-        ensures ok { IsOk result ↔ Adds self.old (Store at bytes.now) (FailsStore self.old) }
-        ensures same_trace { OnErr result (sim_trace self.new ≡ sim_trace self.old) }
-        ensures same_reads { OnErr result (sim_reads self.new ≡ sim_reads self.old) }
-        ensures memory_faults { sim_memory_faults self.new ≡ (if is_err result then one_more (sim_memory_faults self.old) else sim_memory_faults self.old) }
+        ensures ok { IsOk result ↔ ((¬ IsDue self.old) × Adds self.old (Store at bytes.now) (FailsStore self.old)) }
+        ensures cut { IsErrOf result Refusal.Cut ↔ (IsDue self.old × AddsCutStore self.old bytes.now (FailsStore self.old)) }
+        ensures same_trace { IsErrOf result Refusal.Failed → sim_trace self.new ≡ sim_trace self.old }
+        ensures same_reads { IsErrOf result Refusal.Failed → sim_reads self.new ≡ sim_reads self.old }
+        ensures torn { IsErrOf result Refusal.Cut → sim_reads self.new ≡ replaced (sim_reads self.old) at (torn (sim_armed self.old).keep (sim_armed self.old).fill bytes.now) }
+        ensures memory_faults { sim_memory_faults self.new ≡ (if has_failed result then one_more (sim_memory_faults self.old) else sim_memory_faults self.old) }
         ensures output_faults { sim_output_faults self.new ≡ sim_output_faults self.old }
+        ensures cuts { sim_cuts self.new ≡ (if was_cut result then one_more (sim_cuts self.old) else sim_cuts self.old) }
         ensures loads { sim_loads self.new ≡ sim_loads self.old }
         ensures stores { sim_stores self.new ≡ one_more (sim_stores self.old) }
         ensures syncs { sim_syncs self.new ≡ sim_syncs self.old }
         ensures puts { sim_puts self.new ≡ sim_puts self.old }
+        ensures arms { sim_arms self.new ≡ sim_arms self.old }
+        ensures powers { sim_powers self.new ≡ sim_powers self.old }
+        ensures armed { sim_armed self.new ≡ counted (sim_armed self.old) }
         ensures rooms { RoomsAsBefore self.old self.new }
     {
         raise(&mut self.stores);
+        let due = self.armed.count();
         if self.is_failing(CallKind::Store, self.stores) {
             raise(&mut self.memory_faults);
             return Err(Refusal::Failed);
+        }
+        if due {
+            if !cut_store(&mut self.history, &mut self.memory, self.armed, at, bytes) {
+                raise(&mut self.memory_faults);
+                return Err(Refusal::Failed);
+            }
+            self.last = Span::default();
+            raise(&mut self.cuts);
+            return Err(Refusal::Cut);
         }
         let len = bytes.len();
         if !self.history.add(Mark::Store { at, len }, bytes) {
@@ -218,35 +336,53 @@ impl Board for SimBoard {
             return Err(Refusal::Failed);
         }
         overwrite(&mut self.memory, at as usize, bytes);
+        self.last = Span { at, len };
         Ok(())
     }
 
-    /// Every sync counts, one that fails too. It fails where there is no room, and where it is one that fails:
-    /// then the trace tells that it was missed, where there is room for that.
+    /// Every sync counts, one that fails too, for a cut that waits too. It fails where there is no room, and where it
+    /// is one that fails: then the trace tells that it was missed, where there is room for that.
     fn sync(&mut self) -> Result<(), Refusal>
         ensures memory_calls { sim_memory_calls self.new ≡ one_more (sim_memory_calls self.old) }
         ensures gives { Unit {0} → SyncGives (sim_trace self.old) (sim_reads self.old) result (sim_trace self.new) (sim_reads self.new) }
         ensures causes { HasCauses (sim_memory_faults self.old) (sim_memory_faults self.new) (sim_cuts self.old) (sim_cuts self.new) result }
-        ensures ok { IsOk result ↔ Adds self.old Sync (FailsSync self.old) }
-        ensures missed { OnErr result (FailsAsTold self.old Missed (FailsSync self.old) (sim_trace self.new)) }
-        ensures memory_faults { sim_memory_faults self.new ≡ (if is_err result then one_more (sim_memory_faults self.old) else sim_memory_faults self.old) }
+        ensures ok { IsOk result ↔ ((¬ IsDue self.old) × Adds self.old Sync (FailsSync self.old)) }
+        ensures cut { IsErrOf result Refusal.Cut ↔ (IsDue self.old × AddsCut self.old (FailsSync self.old)) }
+        ensures missed { IsErrOf result Refusal.Failed → FailsAsTold self.old Missed (FailsSync self.old) (sim_trace self.new) }
+        ensures torn { IsErrOf result Refusal.Cut → sim_reads self.new ≡ last_torn (sim_armed self.old).keep (sim_armed self.old).fill (pending (sim_trace self.old)) (sim_reads self.old) }
+        ensures memory_faults { sim_memory_faults self.new ≡ (if has_failed result then one_more (sim_memory_faults self.old) else sim_memory_faults self.old) }
         ensures output_faults { sim_output_faults self.new ≡ sim_output_faults self.old }
+        ensures cuts { sim_cuts self.new ≡ (if was_cut result then one_more (sim_cuts self.old) else sim_cuts self.old) }
         ensures loads { sim_loads self.new ≡ sim_loads self.old }
         ensures stores { sim_stores self.new ≡ sim_stores self.old }
         ensures syncs { sim_syncs self.new ≡ one_more (sim_syncs self.old) }
         ensures puts { sim_puts self.new ≡ sim_puts self.old }
+        ensures arms { sim_arms self.new ≡ sim_arms self.old }
+        ensures powers { sim_powers self.new ≡ sim_powers self.old }
+        ensures armed { sim_armed self.new ≡ counted (sim_armed self.old) }
         ensures rooms { RoomsAsBefore self.old self.new }
     {
         raise(&mut self.syncs);
+        let due = self.armed.count();
         if self.is_failing(CallKind::Sync, self.syncs) {
             self.history.add(Mark::Missed, &[]);
             raise(&mut self.memory_faults);
             return Err(Refusal::Failed);
         }
+        if due {
+            if !cut_sync(&mut self.history, &mut self.memory, self.armed, self.last) {
+                raise(&mut self.memory_faults);
+                return Err(Refusal::Failed);
+            }
+            self.last = Span::default();
+            raise(&mut self.cuts);
+            return Err(Refusal::Cut);
+        }
         if !self.history.add(Mark::Sync, &[]) {
             raise(&mut self.memory_faults);
             return Err(Refusal::Failed);
         }
+        self.last = Span::default();
         Ok(())
     }
 
@@ -262,10 +398,14 @@ impl Board for SimBoard {
         ensures half { OnErr result (FailsAsTold self.old (Put (half_of bytes.now)) (FailsPut self.old) (sim_trace self.new)) }
         ensures memory_faults { sim_memory_faults self.new ≡ sim_memory_faults self.old }
         ensures output_faults { sim_output_faults self.new ≡ (if is_err result then one_more (sim_output_faults self.old) else sim_output_faults self.old) }
+        ensures cuts { sim_cuts self.new ≡ sim_cuts self.old }
         ensures loads { sim_loads self.new ≡ sim_loads self.old }
         ensures stores { sim_stores self.new ≡ sim_stores self.old }
         ensures syncs { sim_syncs self.new ≡ sim_syncs self.old }
         ensures puts { sim_puts self.new ≡ one_more (sim_puts self.old) }
+        ensures arms { sim_arms self.new ≡ sim_arms self.old }
+        ensures powers { sim_powers self.new ≡ sim_powers self.old }
+        ensures armed { sim_armed self.new ≡ sim_armed self.old }
         ensures rooms { RoomsAsBefore self.old self.new }
     {
         raise(&mut self.puts);
@@ -279,6 +419,72 @@ impl Board for SimBoard {
             raise(&mut self.output_faults);
             return Err(Failed);
         }
+        Ok(())
+    }
+
+    /// It fails where there is no room. A cut that waits is replaced.
+    fn arm(&mut self, n: u16, keep: u16, fill: u8) -> Result<(), Failed>
+        requires { 1 ≤ n }
+        ensures memory_calls { sim_memory_calls self.new ≡ one_more (sim_memory_calls self.old) }
+        ensures gives { Unit {0} → ArmGives n keep fill (sim_trace self.old) result (sim_trace self.new) }
+        ensures reads { Unit {0} → sim_reads self.new ≡ sim_reads self.old }
+        ensures cause { HasCause (sim_memory_faults self.old) (sim_memory_faults self.new) result }
+        ensures ok { IsOk result ↔ HasRoom self.old (Arm n keep fill) }
+        ensures memory_faults { sim_memory_faults self.new ≡ (if is_err result then one_more (sim_memory_faults self.old) else sim_memory_faults self.old) }
+        ensures output_faults { sim_output_faults self.new ≡ sim_output_faults self.old }
+        ensures cuts { sim_cuts self.new ≡ sim_cuts self.old }
+        ensures loads { sim_loads self.new ≡ sim_loads self.old }
+        ensures stores { sim_stores self.new ≡ sim_stores self.old }
+        ensures syncs { sim_syncs self.new ≡ sim_syncs self.old }
+        ensures puts { sim_puts self.new ≡ sim_puts self.old }
+        ensures arms { sim_arms self.new ≡ one_more (sim_arms self.old) }
+        ensures powers { sim_powers self.new ≡ sim_powers self.old }
+        ensures armed { sim_armed self.new ≡ (if is_err result then sim_armed self.old else record { calls = n; keep = keep; fill = fill }) }
+        ensures rooms { RoomsAsBefore self.old self.new }
+    {
+        raise(&mut self.arms);
+        if !self.history.add(Mark::Arm { n, keep, fill }, &[]) {
+            raise(&mut self.memory_faults);
+            return Err(Failed);
+        }
+        self.cut_on(n, keep, fill);
+        Ok(())
+    }
+
+    /// Every call counts, one that fails too. It fails where there is no room, and where it is one that fails. The
+    /// image is what the memory reads, and a cut that waits goes on waiting.
+    fn power(&mut self) -> Result<(), Failed>
+        ensures memory_calls { sim_memory_calls self.new ≡ one_more (sim_memory_calls self.old) }
+        ensures gives { Unit {0} → PowerGives (sim_trace self.old) (sim_reads self.old) result (sim_trace self.new) (sim_reads self.new) }
+        ensures cause { HasCause (sim_memory_faults self.old) (sim_memory_faults self.new) result }
+        ensures ok { IsOk result ↔ AddsCut self.old (FailsPower self.old) }
+        ensures same_reads { sim_reads self.new ≡ sim_reads self.old }
+        ensures memory_faults { sim_memory_faults self.new ≡ (if is_err result then one_more (sim_memory_faults self.old) else sim_memory_faults self.old) }
+        ensures output_faults { sim_output_faults self.new ≡ sim_output_faults self.old }
+        ensures cuts { sim_cuts self.new ≡ sim_cuts self.old }
+        ensures loads { sim_loads self.new ≡ sim_loads self.old }
+        ensures stores { sim_stores self.new ≡ sim_stores self.old }
+        ensures syncs { sim_syncs self.new ≡ sim_syncs self.old }
+        ensures puts { sim_puts self.new ≡ sim_puts self.old }
+        ensures arms { sim_arms self.new ≡ sim_arms self.old }
+        ensures powers { sim_powers self.new ≡ one_more (sim_powers self.old) }
+        ensures armed { sim_armed self.new ≡ sim_armed self.old }
+        ensures rooms { RoomsAsBefore self.old self.new }
+    {
+        raise(&mut self.powers);
+        if self.is_failing(CallKind::Power, self.powers) {
+            raise(&mut self.memory_faults);
+            return Err(Failed);
+        }
+        let cut = Mark::Cut {
+            forced: false,
+            len: self.memory.len(),
+        };
+        if !self.history.add(cut, &self.memory) {
+            raise(&mut self.memory_faults);
+            return Err(Failed);
+        }
+        self.last = Span::default();
         Ok(())
     }
 

@@ -1,4 +1,6 @@
+mod cuts;
 mod edge;
+mod file_cuts;
 mod typed;
 mod watched;
 

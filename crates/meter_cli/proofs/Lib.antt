@@ -8,3 +8,5 @@ pub mod Shows
 pub mod Waters
 pub mod Certs
 pub mod Readings
+pub mod Further
+pub mod Legible

@@ -1,7 +1,6 @@
 -- What readouts say is in range, and what decides it.
-use Rattle.std.proofs.Common.{◌≡◌, ◌⊎◌, inl, inr, ◌∙◌, ℕ, zero, suc, ◌+◌, ◌-◌, ◌*◌, ◌/◌, ◌%◌, ◌^◌, ◌≤◌, ◌<◌, ◌==◌, ◌&&◌, ◌||◌, Bool, true, false, if◌then◌else◌, cond, pos, ℤ, List, [], ◌∷◌, ◌++◌, length, length-append, length-take, append-nil, take, drop, drop-cons, get_or, Option, None, Some, Result, Ok, Err, refl, sym, ap, subst, arith}
+use Rattle.std.proofs.Common.{◌≡◌, inl, inr, ◌∙◌, ℕ, zero, suc, ◌+◌, ◌-◌, ◌*◌, ◌/◌, ◌%◌, ◌^◌, ◌≤◌, ◌<◌, ◌==◌, ◌&&◌, ◌||◌, Bool, true, false, if◌then◌else◌, cond, pos, ℤ, List, [], ◌∷◌, ◌++◌, length, length-append, length-take, append-nil, take, drop, drop-cons, get_or, Option, None, Some, Result, Ok, Err, refl, sym, ap, subst, arith}
 use Rattle.std.specs.Prelude.{IfOk, IfSome, nat_le, min}
-use Rattle.std.specs.Int.{w16, from_le_bytes}
 use Rattle.std.specs.List.{All, list_all}
 use Rattle.std.proofs.lemmas.Bool.{cases_Bool, cases_lt, leb-true}
 use Rattle.std.proofs.lemmas.List.{get_or_append_left, append_assoc, drop_more, get_or-map, length-map}
@@ -16,17 +15,18 @@ use Rattle.frame_model.specs.Frames.{checksum}
 use Rattle.reading_model.specs.Rules.{Rule, rule, first_broken, unless_broken, byte}
 use Rattle.reading_model.specs.Fields.{Kind, Energy, Volume, FlowTemp, ReturnTemp, Difference, Date, Reading, Telegram}
 use Rattle.reading_model.specs.Records.{Coding, Integer16, Integer32, Decimal8, is_integer16, said_at, fitting_coding, extension, information_size, quantity, is_among, is_decimal, date_of, value_in, record_in, record_size, is_mark, records_in}
-use Rattle.reading_model.specs.Telegrams.{counted_size, counted, start_rules, end_rules, link_rules, serial_rules, kind_rules, decimal_number, maker_in, record_bytes, telegram_of, with_records, counted_telegram, telegram_in}
+use Rattle.reading_model.specs.Telegrams.{counted_size, counted, start_rules, end_rules, link_rules, serial_rules, kind_rules, decimal_number, maker_in, record_bytes, with_records, counted_telegram, telegram_in}
 use Rattle.meter_cli.specs.ReadLines.{IsDayNumber, IsDated, IsReadable}
-use Rattle.readout_reader.specs.Views.{rec_view, recs_view}
+use Rattle.readout_reader.specs.Views.{rec_view, recs_view, shown_list, shown_view}
 use Rattle.readout_reader.specs.declared.mbus_fields.Rec.{Rec}
-use Rattle.meter_cli.specs.ReadLines.{AreRecordLines, IsLineOf}
+use Rattle.readout_reader.specs.declared.optical_fields.Shown.{Shown}
+use Rattle.meter_cli.specs.ReadLines.{AreRecordLines, AreShownLines, IsLineOf, IsShowable, IsShownLine}
 use Rattle.trace_model.specs.Trace.{Trace}
 use Rattle.meter_cli.specs.Ends.{EndsLine}
 use Rattle.meter_cli.specs.Puts.{PutsLines}
 use Rattle.meter_cli.specs.Read.{ReadAnswers, ReadLeaves, read_status}
 use Rattle.meter_cli.specs.declared.status.Status.{Status}
-use Rattle.meter_cli.specs.declared.status.Status.TheVariants.{Done, Read, Write, BadReadout}
+use Rattle.meter_cli.specs.declared.status.Status.TheVariants.{Read, Write, BadReadout}
 
 -- ---- what is said, where something is
 
@@ -267,6 +267,28 @@ pub records_done : (records : List Rec) (i : ℕ) (shown : List (List ℕ)) → 
     → AreRecordLines (recs_view records) shown
 records_done records i shown past so_far =
     subst (AreRecordLines (recs_view records)) (append-nil shown) (so_far [] (subst (λ rs. AreRecordLines (recs_view rs) []) (sym (drop_of_length-le records past)) refl))
+
+-- ---- the lines of entries
+
+pub showable_at : (entries : List Shown) (i : ℕ) (entry : Shown) → i < length entries → entry ≡ get_or entries i entry → All IsShowable (shown_list entries) → IsShowable (shown_view entry)
+showable_at entries i entry lt is all =
+    let there : i < length (shown_list entries) = subst (λ n. i < n) (sym (length-map entries shown_view)) lt in
+    let at : get_or (shown_list entries) i (shown_view entry) ≡ shown_view entry = get_or-map shown_view entries i entry (shown_view entry) lt ∙ ap shown_view (sym is) in
+    subst IsShowable at (All-get_or IsShowable (shown_list entries) i (shown_view entry) there all)
+
+-- the lines of the entries up to one, with those of the entries after it, are the lines of all
+pub entry_more : (entries : List Shown) (i : ℕ) (entry : Shown) (line : List ℕ) (shown rest : List (List ℕ)) → i < length entries → entry ≡ get_or entries i entry → IsShownLine (shown_view entry) line
+    → ((others : List (List ℕ)) → AreShownLines (shown_list (drop i entries)) others → AreShownLines (shown_list entries) (shown ++ others))
+    → AreShownLines (shown_list (drop (i + 1) entries)) rest → AreShownLines (shown_list entries) ((shown ++ line ∷ []) ++ rest)
+entry_more entries i entry line shown rest lt is text so_far after =
+    let next : drop i entries ≡ entry ∷ drop (i + 1) entries = drop_more entries i entry lt ∙ ap (λ e. e ∷ drop (i + 1) entries) (sym is) in
+    subst (AreShownLines (shown_list entries)) (sym (append_assoc shown (line ∷ []) rest)) (so_far (line ∷ rest) (subst (λ es. AreShownLines (shown_list es) (line ∷ rest)) (sym next) (text, after)))
+
+pub entries_done : (entries : List Shown) (i : ℕ) (shown : List (List ℕ)) → length entries ≤ i
+    → ((others : List (List ℕ)) → AreShownLines (shown_list (drop i entries)) others → AreShownLines (shown_list entries) (shown ++ others))
+    → AreShownLines (shown_list entries) shown
+entries_done entries i shown past so_far =
+    subst (AreShownLines (shown_list entries)) (append-nil shown) (so_far [] (subst (λ es. AreShownLines (shown_list es) []) (sym (drop_of_length-le entries past)) refl))
 
 -- ---- the answer
 

@@ -9,7 +9,7 @@ use Rattle.pt_curve.specs.declared.sensor.Sensor.TheVariants.{Pt100, Pt500, Pt10
 use Rattle.sensor_pair.specs.declared.place.Place.{Place}
 use Rattle.sensor_pair.specs.declared.place.Place.TheVariants.{Flow, Return}
 use Rattle.meter_cli.specs.declared.job.Job.{Job}
-use Rattle.meter_cli.specs.declared.job.Job.TheVariants.{Init, Run, Dry, Show, Temp, Water, Coef, BenchCalc, BenchPair, BenchFlow, Gen, Cert, ReadMbus}
+use Rattle.meter_cli.specs.declared.job.Job.TheVariants.{Init, Run, Dry, Show, Temp, Water, Coef, BenchCalc, BenchPair, BenchFlow, Gen, Cert, ReadMbus, ReadOptical}
 use Rattle.meter_cli.specs.declared.job.Usage.{Usage}
 
 -- the word is this text
@@ -81,7 +81,7 @@ cert_words words = word_at 1 (number_in 1100 4000) words >>= λ p. end_at 2 (Cer
 -- the words after `read`
 abbrev pub read_words : List (List ℕ) → Result Job ℕ
 read_words [] = Err 1
-read_words (kind ∷ words) = cond (is_text (codes "mbus") kind) (end_at 2 ReadMbus words) (Err 1)
+read_words (kind ∷ words) = cond (is_text (codes "mbus") kind) (end_at 2 ReadMbus words) (cond (is_text (codes "optical") kind) (end_at 2 ReadOptical words) (Err 1))
 
 -- the command that words say, or the place of the first wrong, missing or extra word, from 0
 abbrev pub command_of : List (List ℕ) → Result Job ℕ
@@ -115,6 +115,7 @@ IsInRange (BenchFlow class qp q reference indicated) = (1 ≤ class) × (class �
 IsInRange (Gen seed count) = count ≤ 1000000
 IsInRange (Cert p) = (1100 ≤ p) × (p ≤ 4000)
 IsInRange ReadMbus = Unit {0}
+IsInRange ReadOptical = Unit {0}
 
 -- a command that puts one line
 abbrev pub PutsOneLine : Job → Type 0
@@ -131,6 +132,7 @@ PutsOneLine (BenchFlow class qp q reference indicated) = Unit {0}
 PutsOneLine (Gen seed count) = Unit {0}
 PutsOneLine (Cert p) = ⊥
 PutsOneLine ReadMbus = ⊥
+PutsOneLine ReadOptical = ⊥
 
 -- a command that reads nothing
 abbrev pub ReadsNothing : Job → Type 0
@@ -147,6 +149,7 @@ ReadsNothing (BenchFlow class qp q reference indicated) = Unit {0}
 ReadsNothing (Gen seed count) = Unit {0}
 ReadsNothing (Cert p) = Unit {0}
 ReadsNothing ReadMbus = ⊥
+ReadsNothing ReadOptical = ⊥
 
 -- a command that makes no call on the memory
 abbrev pub UsesNoMemory : Job → Type 0
@@ -163,6 +166,7 @@ UsesNoMemory (BenchFlow class qp q reference indicated) = Unit {0}
 UsesNoMemory (Cert p) = Unit {0}
 UsesNoMemory (Gen seed count) = Unit {0}
 UsesNoMemory ReadMbus = Unit {0}
+UsesNoMemory ReadOptical = Unit {0}
 
 -- the words begin with this one, where there is one
 abbrev pub BeginsWith : List (List ℕ) → Option (Bor (List ℕ) × Bor (List (Bor (List ℕ)))) → Type 0

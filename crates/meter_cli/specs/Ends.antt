@@ -6,7 +6,7 @@ use Rattle.run_engine.specs.declared.Ended.{Ended}
 use Rattle.run_engine.specs.Dry.{EndsWithoutMemory}
 use Rattle.meter_cli.specs.Status.{status_of}
 use Rattle.meter_cli.specs.declared.job.Job.{Job}
-use Rattle.meter_cli.specs.declared.job.Job.TheVariants.{Init, Run, Dry, Show, Temp, Water, Coef, BenchCalc, BenchPair, BenchFlow, Gen, Cert, ReadMbus}
+use Rattle.meter_cli.specs.declared.job.Job.TheVariants.{Init, Run, Dry, Show, Temp, Water, Coef, BenchCalc, BenchPair, BenchFlow, Gen, Cert, ReadMbus, ReadOptical}
 use Rattle.meter_cli.specs.declared.status.Status.{Status}
 use Rattle.meter_cli.specs.declared.status.Status.TheVariants.{Done, Config, Memory, Read, Write, Unformatted, Foreign, Formatted, OutOfMemory, Cut, NotRising, BadReadout}
 
@@ -52,3 +52,4 @@ EndsBy (BenchFlow class qp q reference indicated) status = EndsLine status
 EndsBy (Gen seed count) status = EndsLine status
 EndsBy (Cert p) status = EndsCert status
 EndsBy ReadMbus status = EndsRead status
+EndsBy ReadOptical status = EndsRead status

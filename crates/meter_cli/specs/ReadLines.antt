@@ -2,10 +2,10 @@
 use Rattle.std.specs.Prelude.{◌≡◌, ℕ, ◌^◌, ◌<◌, ◌≤◌, ℤ, pos, Bool, true, false, List, [], ◌∷◌, ◌++◌, codes}
 use Rattle.std.specs.Fmt.{decimal, signed_decimal}
 use Rattle.std.specs.List.{All}
-use Rattle.calendar_model.specs.Texts.{IsDayText}
-use Rattle.display_model.specs.Display.{eight_digits}
+use Rattle.calendar_model.specs.Texts.{IsDayText, two_digits}
+use Rattle.display_model.specs.Display.{eight_digits, pointed}
 use Rattle.heat_model.specs.Heat.{Place, Flow, Return}
-use Rattle.reading_model.specs.Fields.{Kind, Energy, Volume, FlowTemp, ReturnTemp, Difference, Date, Reading, Telegram}
+use Rattle.reading_model.specs.Fields.{Kind, Energy, Volume, FlowTemp, ReturnTemp, Difference, Date, Reading, Telegram, Number, Shown, Message}
 
 -- ---- telegrams
 
@@ -77,3 +77,58 @@ pub record AreTelegramLines (t : Telegram) (lines : List (List ℕ)) : Type 0 wh
   pub records : List (List ℕ)
   pub records_are : AreRecordLines t.records records
   pub are : lines ≡ (header_lines t ++ records) ++ more_lines t.more
+
+-- ---- data messages
+
+-- a number has eight digits, and at most three of them are decimals
+pub record IsDisplay (n : Number) : Type 0 where
+  pub digits : n.digits < 10 ^ 8
+  pub decimals : n.decimals ≤ 3
+
+-- an entry has a mark of two digits, and displays
+pub record IsShowable (e : Shown) : Type 0 where
+  pub mark : e.mark ≤ 99
+  pub energy : IsDisplay e.energy
+  pub volume : IsDisplay e.volume
+
+-- what a data message says has lines: a serial number of eight digits, displays, and entries that have lines
+pub record IsLegible (m : Message) : Type 0 where
+  pub serial : m.serial < 10 ^ 8
+  pub energy : IsDisplay m.energy
+  pub volume : IsDisplay m.volume
+  pub entries : All IsShowable m.entries
+
+-- a number with its decimals
+abbrev pub number_text : Number → List ℕ
+number_text n = pointed n.decimals (eight_digits n.digits)
+
+-- the lines before those of the entries
+pub record AreFirstLines (m : Message) (lines : List (List ℕ)) : Type 0 where
+  pub day : List ℕ
+  pub dated : IsDayText m.day day
+  pub are : lines
+      ≡ (codes "serial " ++ eight_digits m.serial ++ codes "\n")
+      ∷ (codes "energy " ++ number_text m.energy ++ codes " kWh\n")
+      ∷ (codes "volume " ++ number_text m.volume ++ codes " m3\n")
+      ∷ (codes "day " ++ day ++ codes "\n")
+      ∷ []
+
+-- `MM YYYY-MM-DD ENERGY kWh VOLUME m3`, the mark in two digits
+pub record IsShownLine (e : Shown) (line : List ℕ) : Type 0 where
+  pub day : List ℕ
+  pub dated : IsDayText e.day day
+  pub is : line ≡ two_digits e.mark ++ codes " " ++ day ++ codes " " ++ number_text e.energy ++ codes " kWh " ++ number_text e.volume ++ codes " m3\n"
+
+-- one line for each entry, in their order
+abbrev pub AreShownLines : List Shown → List (List ℕ) → Type 0
+AreShownLines [] lines = lines ≡ []
+AreShownLines (e ∷ es) [] = ⊥
+AreShownLines (e ∷ es) (line ∷ lines) = IsShownLine e line × AreShownLines es lines
+
+-- the lines of a data message
+pub record AreMessageLines (m : Message) (lines : List (List ℕ)) : Type 0 where
+  pub before : List (List ℕ)
+  pub entries : List (List ℕ)
+  pub before_are : AreFirstLines m before
+  pub entries_are : AreShownLines m.entries entries
+  pub are : lines ≡ before ++ entries

@@ -1,5 +1,5 @@
 -- The status of a command: its number, its text, and what `dry` and `run` leave at it.
-use Rattle.std.specs.Prelude.{◌≡◌, ℕ, ◌/◌, ◌%◌, List, [], ◌∷◌, ◌++◌, codes}
+use Rattle.std.specs.Prelude.{◌≡◌, ◌⊎◌, ℕ, ◌/◌, ◌%◌, List, [], ◌∷◌, ◌++◌, codes}
 use Rattle.std.specs.Char.{digit_char}
 use Rattle.std.specs.Fmt.{decimal}
 use Rattle.calendar_model.specs.Texts.{IsDayText}
@@ -28,7 +28,6 @@ status_of ended.Read = Read
 status_of ended.Write = Write
 status_of (ended.Unformatted byte) = Unformatted byte
 status_of (ended.Foreign at) = Foreign at
-status_of ended.Cut = Cut
 
 -- the status of a text that gives no configuration
 abbrev pub text_status : ConfigFault → Status
@@ -59,6 +58,10 @@ pub record RunEnds (memory : Stored) (script : List ℕ) (trace : Trace) (status
   pub ended : Ended
   pub is : status ≡ status_of ended
   pub leaves : RunLeaves memory script trace ended
+
+-- each line was answered, or one was refused
+abbrev pub IsDoneOrLine : Status → Type 0
+IsDoneOrLine status = (status ≡ Done) ⊎ ((n : ℕ) × (kind : LineFault) × (status ≡ Line n kind))
 
 abbrev pub code_of : Status → ℕ
 code_of Done = 0

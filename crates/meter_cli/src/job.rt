@@ -85,6 +85,8 @@ pub enum Job {
     },
     /// `read mbus`: put what the telegram that the source tells says.
     ReadMbus,
+    /// `read optical`: put what the data message that the source tells says.
+    ReadOptical,
 }
 
 /// The words are no command, with the place of the first wrong, missing or extra word, counted from 0.
@@ -279,6 +281,8 @@ fn read(words: &[&str]) -> Result<Job, Usage>
     };
     if kind.as_bytes() == b"mbus".as_slice() {
         last(rest, Job::ReadMbus)
+    } else if kind.as_bytes() == b"optical".as_slice() {
+        last(rest, Job::ReadOptical)
     } else {
         Err(Usage { word: 1 })
     }

@@ -8,9 +8,12 @@ mod cert_tests;
 mod generated;
 mod init;
 mod job;
+mod message_lines;
 mod physics;
 #[cfg(test)]
 mod pieces_tests;
+#[cfg(test)]
+mod power_tests;
 mod puts;
 #[cfg(test)]
 mod read_tests;

@@ -1,5 +1,5 @@
 //! What the program does.
-ghost use Rattle.std.specs.Prelude.{◌≡◌, ◌≢◌, ◌⊎◌, ◌↔◌, ◌+◌, ◌≤◌, ℕ, [], length, slice_index, Ok, Err};
+ghost use Rattle.std.specs.Prelude.{◌≡◌, ◌≢◌, ◌⊎◌, ◌↔◌, ◌+◌, ◌-◌, ◌^◌, ◌≤◌, ℕ, [], length, min, slice_index, Ok, Err};
 ghost use Rattle.script_model.specs.Lines.{lines_of};
 ghost use Rattle.config_model.specs.Configuration.{Configuration};
 ghost use Rattle.metering_model.specs.Records.{MeterRecord};
@@ -9,13 +9,14 @@ ghost use Rattle.trace_model.specs.Trace.{IsFresh, Trace, base_of};
 ghost use Rattle.trace_model.specs.Moments.{IsPrefix, Leaves};
 ghost use Rattle.trace_model.specs.Output.{PutsAlone, output_lines};
 ghost use Rattle.pairing_model.specs.Setup.{on_memory};
-ghost use Rattle.pairing_model.specs.Pairing.{NoneRefused};
+ghost use Rattle.pairing_model.specs.Journal.{Journal, at_start};
+ghost use Rattle.pairing_model.specs.Pairing.{Pairs};
 ghost use Rattle.meter_board.specs.Causes.{Rose};
 ghost use Rattle.meter_config.specs.Faults.{Refuses};
 ghost use Rattle.meter_config.specs.declared.fault.ConfigFault.{ConfigFault};
 ghost use Rattle.register_store.specs.Formatted.{UnformattedOr};
+ghost use Rattle.reading_model.specs.Messages.{message_in};
 ghost use Rattle.reading_model.specs.Telegrams.{telegram_in};
-ghost use Rattle.run_engine.specs.Dry.{dry_opening, dry_setup};
 ghost use Rattle.run_engine.specs.Ran.{StopsAtRead};
 ghost use Rattle.meter_cli.specs.Bench.{CalcLeaves, PairLeaves, flow_text};
 ghost use Rattle.meter_cli.specs.Cert.{CertLeaves};
@@ -26,9 +27,9 @@ ghost use Rattle.meter_cli.specs.Gen.{GenLeaves};
 ghost use Rattle.meter_cli.specs.Init.{InitAnswers, InitLeaves, first_record};
 ghost use Rattle.meter_cli.specs.Puts.{PutsLine};
 ghost use Rattle.meter_cli.specs.Read.{ReadAnswers, ReadLeaves, read_status};
-ghost use Rattle.meter_cli.specs.ReadLines.{AreTelegramLines};
+ghost use Rattle.meter_cli.specs.ReadLines.{AreMessageLines, AreTelegramLines};
 ghost use Rattle.meter_cli.specs.Show.{ShowLeaves};
-ghost use Rattle.meter_cli.specs.Status.{DryLeaves, RunEnds, status_of};
+ghost use Rattle.meter_cli.specs.Status.{DryLeaves, IsDoneOrLine, RunEnds, status_of};
 ghost use Rattle.meter_cli.specs.Temp.{TempLeaves};
 ghost use Rattle.meter_cli.specs.Water.{WaterLeaves};
 ghost use Rattle.meter_cli.specs.declared.job.Job.{Job};
@@ -63,15 +64,18 @@ pub fn meter<S: Source, B: Board>(
     ensures usage { (at : ℕ) → (result ≡ Status.Usage at) ↔ (command_of (texts words.now) ≡ Err at) }
     ensures untouched { (at : ℕ) → command_of (texts words.now) ≡ Err at → (source.new ≡ source.old) × (board.new ≡ board.old) }
 
-    // What `run` leaves, by what the memory stood for at its start, and when it must answer Done.
+    // What `run` leaves, by what the memory stood for at its start. Where nothing failed, each line has its answer, or
+    // one is refused by the record in force; power failures do not hinder it. No more events meet a power failure than
+    // the board counts cuts.
     ensures run { command_of (texts words.now) ≡ Ok Job.Run → S.tells → B.tells → RunEnds (stored (base_of (B.trace board.old))) (S.left source.old) (B.trace board.new) result }
-    ensures run_complete { (c : Configuration) (o : MeterRecord) (side : Side) → command_of (texts words.now) ≡ Ok Job.Run → S.tells → B.tells → stored (base_of (B.trace board.old)) ≡ Holds c o side → NoneRefused (on_memory c) o (lines_of (S.left source.old)) → ¬ Rose (S.faults source.old) (S.faults source.new) → ¬ Rose (B.memory_faults board.old) (B.memory_faults board.new) → ¬ Rose (B.output_faults board.old) (B.output_faults board.new) → ¬ Rose (B.cuts board.old) (B.cuts board.new) → result ≡ Status.Done }
+    ensures run_complete { (c : Configuration) (o : MeterRecord) (side : Side) → command_of (texts words.now) ≡ Ok Job.Run → S.tells → B.tells → stored (base_of (B.trace board.old)) ≡ Holds c o side → ¬ Rose (S.faults source.old) (S.faults source.new) → ¬ Rose (B.memory_faults board.old) (B.memory_faults board.new) → ¬ Rose (B.output_faults board.old) (B.output_faults board.new) → IsDoneOrLine result }
+    ensures run_few_lost { (c : Configuration) (o : MeterRecord) (side : Side) (j : Journal) → command_of (texts words.now) ≡ Ok Job.Run → S.tells → B.tells → stored (base_of (B.trace board.old)) ≡ Holds c o side → Pairs (on_memory c) o 0 at_start (lines_of (S.left source.old)) (output_lines (B.trace board.new)) j → min (B.cuts board.old + j.interrupted) (2 ^ 64 - 1) ≤ B.cuts board.new }
     ensures run_end { command_of (texts words.now) ≡ Ok Job.Run → S.tells → B.tells → result ≡ Status.Done → S.left source.new ≡ [] }
     ensures run_delivered { command_of (texts words.now) ≡ Ok Job.Run → S.tells → B.tells → result ≡ Status.Read → StopsAtRead (S.left source.old) (S.left source.new) (length (output_lines (B.trace board.new))) }
 
-    // What `dry` leaves, and when it must answer Done.
+    // What `dry` leaves. Where nothing failed, each line has its answer, or one is refused by the record in force.
     ensures dry { command_of (texts words.now) ≡ Ok Job.Dry → S.tells → B.tells → DryLeaves (S.left source.old) (B.trace board.new) result }
-    ensures complete { command_of (texts words.now) ≡ Ok Job.Dry → S.tells → B.tells → NoneRefused dry_setup dry_opening (lines_of (S.left source.old)) → ¬ Rose (S.faults source.old) (S.faults source.new) → ¬ Rose (B.output_faults board.old) (B.output_faults board.new) → result ≡ Status.Done }
+    ensures complete { command_of (texts words.now) ≡ Ok Job.Dry → ¬ Rose (S.faults source.old) (S.faults source.new) → ¬ Rose (B.output_faults board.old) (B.output_faults board.new) → IsDoneOrLine result }
     ensures end { command_of (texts words.now) ≡ Ok Job.Dry → S.tells → B.tells → result ≡ Status.Done → S.left source.new ≡ [] }
     ensures delivered { command_of (texts words.now) ≡ Ok Job.Dry → S.tells → B.tells → result ≡ Status.Read → StopsAtRead (S.left source.old) (S.left source.new) (length (output_lines (B.trace board.new))) }
 
@@ -121,12 +125,19 @@ pub fn meter<S: Source, B: Board>(
     ensures read_mbus_reads { command_of (texts words.now) ≡ Ok Job.ReadMbus → S.tells → length (S.left source.old) ≤ length (S.left source.new) + 262 }
     ensures read_mbus_untouched { command_of (texts words.now) ≡ Ok Job.ReadMbus → EndsUnread result → board.new ≡ board.old }
 
+    // `read optical` in the same way. 2,049 bytes decide.
+    ensures read_optical { command_of (texts words.now) ≡ Ok Job.ReadOptical → S.tells → B.tells → ReadLeaves AreMessageLines (message_in (S.left source.old)) (B.trace board.old) (B.trace board.new) result }
+    ensures read_optical_answers { command_of (texts words.now) ≡ Ok Job.ReadOptical → S.tells → ReadAnswers (message_in (S.left source.old)) result }
+    ensures read_optical_complete { command_of (texts words.now) ≡ Ok Job.ReadOptical → S.tells → ¬ Rose (S.faults source.old) (S.faults source.new) → ¬ Rose (B.output_faults board.old) (B.output_faults board.new) → result ≡ read_status (message_in (S.left source.old)) }
+    ensures read_optical_reads { command_of (texts words.now) ≡ Ok Job.ReadOptical → S.tells → length (S.left source.old) ≤ length (S.left source.new) + 2049 }
+    ensures read_optical_untouched { command_of (texts words.now) ≡ Ok Job.ReadOptical → EndsUnread result → board.new ≡ board.old }
+
     // The commands that put one line, `cert` and `show` read nothing.
     ensures unread { (job : Job) → command_of (texts words.now) ≡ Ok job → ReadsNothing job → source.new ≡ source.old }
 
-    // Nor does `run` where the memory is unformatted or foreign.
-    ensures run_unformatted { (byte : ℕ) → command_of (texts words.now) ≡ Ok Job.Run → result ≡ Status.Unformatted byte → source.new ≡ source.old }
-    ensures run_foreign { (at : ℕ) → command_of (texts words.now) ≡ Ok Job.Run → result ≡ Status.Foreign at → source.new ≡ source.old }
+    // Nor does `run` where the memory is unformatted or foreign; a board that tells has no such memory later on.
+    ensures run_unformatted { (byte : ℕ) → command_of (texts words.now) ≡ Ok Job.Run → S.tells → B.tells → result ≡ Status.Unformatted byte → source.new ≡ source.old }
+    ensures run_foreign { (at : ℕ) → command_of (texts words.now) ≡ Ok Job.Run → S.tells → B.tells → result ≡ Status.Foreign at → source.new ≡ source.old }
 
     // But for `init`, `run` and `show`, no command makes a call on the memory, not even one that leaves no trace.
     ensures memory_untouched { (job : Job) → command_of (texts words.now) ≡ Ok job → UsesNoMemory job → B.memory_calls board.new ≡ B.memory_calls board.old }
@@ -216,6 +227,7 @@ pub fn meter<S: Source, B: Board>(
         Ok(Job::Gen { seed, count }) => generate(board, seed, count),
         Ok(Job::Cert { p_kpa }) => cert(board, p_kpa),
         Ok(Job::ReadMbus) => readout::mbus(source, board),
+        Ok(Job::ReadOptical) => readout::optical(source, board),
     }
 }
 
@@ -230,6 +242,5 @@ fn status_from(ended: Ended) -> Status
         Ended::Write => Status::Write,
         Ended::Unformatted { byte } => Status::Unformatted { byte },
         Ended::Foreign { at } => Status::Foreign { at },
-        Ended::Cut => Status::Cut,
     }
 }

@@ -87,23 +87,32 @@ cap-one : (c : Settings) (k : Option Counted) (e : ℤ) (b : ℕ) → AddsBy (Fi
 cap-one c None e b adds = omega (arith, adds.1)
 cap-one c (Some k) e b adds = adds.cap
 
-pub all_bounded : (c : Settings) (o : MeterRecord) (choice : ℕ → Temps) (ks : List Kept) → AllFit c o ks → IsChoice c o choice ks → IsBounded c o choice ks
-all_bounded c o choice ks fit chosen =
+all-each : {X : Type 0} (P R : X → Type 0) (xs : List X) → ((x : X) → P x → R x) → AllByRecursion P xs → AllByRecursion R xs
+all-each P R [] gives ps = tt
+all-each P R (x ∷ xs) gives ps = (gives x ps.0, all-each P R xs gives ps.1)
+
+pub all_near : (c : Settings) (o : MeterRecord) (choice : ℕ → Temps) (ks : List Kept) → AllFit c o ks → IsChoice c o choice ks → IsNear (energy_in ks) (pos (bound_in ks)) (exact_integral c o choice ks)
+all_near c o choice ks fit chosen =
     let Adds = λ (e : Placed). AddsBy (Fits c) (counted_at c o e) e.kept.energy_mj e.kept.bound_mj in
     let Chosen = λ (e : Placed). IsChoiceOf c (counted_at c o e) (choice (length e.before)) in
     let value = λ (e : Placed). energy_or_none c (counted_at c o e) (choice (length e.before)) in
     let bound = λ (e : Placed). e.kept.bound_mj in
-    let litres = λ (e : Placed). litres_or_none (counted_at c o e) in
     let each : AllByRecursion (λ e. IsNear e.kept.energy_mj (pos (bound e)) (value e)) (placed ks) =
     all-both Adds Chosen (λ (e : Placed). IsNear e.kept.energy_mj (pos (bound e)) (value e)) (placed ks)
     (λ e. near-one c (counted_at c o e) e.kept.energy_mj e.kept.bound_mj (choice (length e.before))) fit chosen in
+    subst (λ b. IsNear (energy_in ks) (pos b) (exact_integral c o choice ks)) (sum_by-kept [] ks) (sum_near value bound [] ks each)
+
+pub all_capped : (c : Settings) (o : MeterRecord) (ks : List Kept) → AllFit c o ks → bound_in ks ≤ 2000 * counted_litres c o ks
+all_capped c o ks fit =
+    let Adds = λ (e : Placed). AddsBy (Fits c) (counted_at c o e) e.kept.energy_mj e.kept.bound_mj in
+    let bound = λ (e : Placed). e.kept.bound_mj in
+    let litres = λ (e : Placed). litres_or_none (counted_at c o e) in
     let caps : AllByRecursion (λ e. bound e ≤ 2000 * litres e) (placed ks) =
-    all-both Adds Chosen (λ (e : Placed). bound e ≤ 2000 * litres e) (placed ks)
-    (λ e adds is. cap-one c (counted_at c o e) e.kept.energy_mj e.kept.bound_mj adds) fit chosen in
-    record {
-      near = subst (λ b. IsNear (energy_in ks) (pos b) (exact_integral c o choice ks)) (sum_by-kept [] ks) (sum_near value bound [] ks each);
-      cap = omega (arith, sum_by-kept [] ks, sum_by-below bound (λ (e : Placed). 2000 * litres e) (placed ks) caps, sum_by-times litres 2000 (placed ks));
-    }
+    all-each Adds (λ (e : Placed). bound e ≤ 2000 * litres e) (placed ks) (λ e. cap-one c (counted_at c o e) e.kept.energy_mj e.kept.bound_mj) fit in
+    omega (arith, sum_by-kept [] ks, sum_by-below bound (λ (e : Placed). 2000 * litres e) (placed ks) caps, sum_by-times litres 2000 (placed ks))
+
+pub all_bounded : (c : Settings) (o : MeterRecord) (choice : ℕ → Temps) (ks : List Kept) → AllFit c o ks → IsChoice c o choice ks → IsBounded c o choice ks
+all_bounded c o choice ks fit chosen = record { near = all_near c o choice ks fit chosen; cap = all_capped c o ks fit }
 
 -- ---- the finer bound, where cells are narrow
 -- each cell of a sample in range is at most 2,800 nanodegrees wide

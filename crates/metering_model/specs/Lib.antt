@@ -3,3 +3,4 @@ pub mod Settings
 pub mod Counting
 pub mod Records
 pub mod Integral
+pub mod Near

@@ -4,10 +4,11 @@ use Rattle.std.proofs.lemmas.List.{append-nil}
 use Rattle.metering_model.specs.Events.{Kept}
 use Rattle.metering_model.specs.Records.{MeterRecord}
 use Rattle.trace_model.specs.Output.{OutputLine}
-use Rattle.script_model.specs.Grammar.{Line, Metering, Opt, Mbus}
+use Rattle.script_model.specs.Grammar as grammar
+use Rattle.script_model.specs.Grammar.{Line, Metering, Power, Opt, Mbus}
 use Rattle.pairing_model.specs.Setup.{Setup}
 use Rattle.pairing_model.specs.Journal.{Journal}
-use Rattle.pairing_model.specs.Pairing.{Answers, IgnoresBytes, Pairs, Replies, RepliesToFrame}
+use Rattle.pairing_model.specs.Pairing.{Acknowledges, Answers, IgnoresBytes, Interrupts, Pairs, Replies, RepliesToFrame}
 
 pub pairs-more : (s : Setup) (o : MeterRecord) (n : ℕ) (old : Journal) (lines : List (List ℕ)) (outputs : List OutputLine) (mid new : Journal) (l : List ℕ) (rest : List (List ℕ)) (a : OutputLine)
     → Pairs s o n old lines outputs mid → drop (length outputs) lines ≡ l ∷ rest → Answers s o (n + length outputs) mid l a new → Pairs s o n old lines (outputs ++ a ∷ []) new
@@ -26,11 +27,16 @@ pairs-length s o n old [] (b ∷ bs) new pairs = absurd pairs
 pairs-length s o n old (k ∷ ks) (b ∷ bs) new pairs = omega (arith, pairs-length s o (n + 1) pairs.0 ks bs new pairs.2)
 
 -- an answer keeps at most one event more
-pub reply-keeps : (s : Setup) (o : MeterRecord) (old : Journal) (said : Line) (text : List ℕ) (new : Journal) → Replies s o old said text new → (ks : List Kept) × (new.kept ≡ old.kept ++ ks)
-reply-keeps s o old (Metering event) text new reply = (record { event = event; energy_mj = reply.energy_mj; bound_mj = reply.bound_mj } ∷ [], ap (λ (j : Journal). j.kept) reply.keeps)
-reply-keeps s o old (Opt message) text new reply = ([], ap (λ (j : Journal). j.kept) reply.hears ∙ sym (append-nil old.kept))
-reply-keeps s o old (Mbus bytes) text new reply = by_cases reply where
-  by_cases : RepliesToFrame s o old bytes text new ⊎ IgnoresBytes s o old bytes text new → (ks : List Kept) × (new.kept ≡ old.kept ++ ks)
+pub reply-keeps : (s : Setup) (o : MeterRecord) (old : Journal) (said : Line) (a : OutputLine) (new : Journal) → Replies s o old said a new → (ks : List Kept) × (new.kept ≡ old.kept ++ ks)
+reply-keeps s o old (Metering event) a new reply = by_cases reply where
+  by_cases : Acknowledges s o old event a new ⊎ Interrupts s o old event a new → (ks : List Kept) × (new.kept ≡ old.kept ++ ks)
+  by_cases (inl r) = (record { event = event; energy_mj = r.energy_mj; bound_mj = r.bound_mj } ∷ [], ap (λ (j : Journal). j.kept) r.keeps)
+  by_cases (inr r) = (r.held, ap (λ (j : Journal). j.kept) r.restarts.starts)
+reply-keeps s o old Power a new reply = ([], ap (λ (j : Journal). j.kept) reply.restarts.starts ∙ sym (append-nil old.kept))
+reply-keeps s o old (grammar.Cut n keep fill) a new reply = ([], ap (λ (j : Journal). j.kept) reply.stays ∙ sym (append-nil old.kept))
+reply-keeps s o old (Opt message) a new reply = ([], ap (λ (j : Journal). j.kept) reply.hears ∙ sym (append-nil old.kept))
+reply-keeps s o old (Mbus bytes) a new reply = by_cases reply where
+  by_cases : RepliesToFrame s o old bytes a new ⊎ IgnoresBytes s o old bytes a new → (ks : List Kept) × (new.kept ≡ old.kept ++ ks)
   by_cases (inl r) = ([], ap (λ (j : Journal). j.kept) r.hears ∙ sym (append-nil old.kept))
   by_cases (inr r) = ([], ap (λ (j : Journal). j.kept) r.hears ∙ sym (append-nil old.kept))
 
@@ -39,7 +45,7 @@ pub pairs-grow : (s : Setup) (o : MeterRecord) (n : ℕ) (old : Journal) (lines 
 pairs-grow s o n old lines [] new pairs = ([], ap (λ (j : Journal). j.kept) pairs ∙ sym (append-nil old.kept))
 pairs-grow s o n old [] (b ∷ bs) new pairs = absurd pairs
 pairs-grow s o n old (l ∷ ls) (b ∷ bs) new pairs =
-    let one = reply-keeps s o old pairs.1.said b.text pairs.0 pairs.1.reply in
+    let one = reply-keeps s o old pairs.1.said b pairs.0 pairs.1.reply in
     let more = pairs-grow s o (n + 1) pairs.0 ls bs new pairs.2 in
     (one.0 ++ more.0, more.1 ∙ ap (λ ks. ks ++ more.0) one.1 ∙ append_assoc old.kept one.0 more.0)
 

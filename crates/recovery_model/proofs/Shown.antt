@@ -11,17 +11,17 @@ use Rattle.metering_model.specs.Settings.{Settings}
 use Rattle.metering_model.specs.Records.{MeterRecord, litres_of}
 use Rattle.script_model.specs.Lines.{words_of}
 use Rattle.script_model.specs.Numbers.{all_digits, is_digit, is_number, value_after}
-use Rattle.journal_model.specs.Texts.{mbus_text, ok_text, opt_text, readout_text, reply_shown}
+use Rattle.journal_model.specs.Texts.{mbus_text, ok_text, opt_text, power_text, readout_text, reply_shown}
 use Rattle.recovery_model.specs.Shown.{number_of, number_shown}
 
 -- how a number is written
-record IsWritten (n : ℕ) (ds : List ℕ) : Type 0 where
-  some : 0 < length ds
-  digits : all_digits ds ≡ true
-  no_space : All (λ d. (d == 32) ≡ false) ds
-  value : value_after 0 ds ≡ n
-  lead : 1 ≤ n → (get_or ds 0 0 == 48) ≡ false
-  single : n ≡ 0 → length ds ≡ 1
+pub record IsWritten (n : ℕ) (ds : List ℕ) : Type 0 where
+  pub some : 0 < length ds
+  pub digits : all_digits ds ≡ true
+  pub no_space : All (λ d. (d == 32) ≡ false) ds
+  pub value : value_after 0 ds ≡ n
+  pub lead : 1 ≤ n → (get_or ds 0 0 == 48) ≡ false
+  pub single : n ≡ 0 → length ds ≡ 1
 
 all_digits-append : (xs ys : List ℕ) → all_digits xs ≡ true → all_digits ys ≡ true → all_digits (xs ++ ys) ≡ true
 all_digits-append [] ys p q = q
@@ -35,7 +35,7 @@ first-append : (xs ys : List ℕ) → 0 < length xs → get_or (xs ++ ys) 0 0 �
 first-append [] ys some = absurd (omega arith)
 first-append (x ∷ xs) ys some = refl
 
-one_digit : (n : ℕ) → n < 10 → is_digit (48 + n) ≡ true
+pub one_digit : (n : ℕ) → n < 10 → is_digit (48 + n) ≡ true
 one_digit n small = and_from _ _ (le-leb 48 (48 + n) (omega arith)) (le-leb (48 + n) 57 (omega arith))
 
 digit_alone : (n : ℕ) → n < 10 → all_digits ((48 + n) ∷ []) ≡ true
@@ -64,7 +64,7 @@ written_more n ds large w = record {
   single = λ is. absurd (omega arith);
 }
 
-written : (n : ℕ) → n < 10 ^ 64 → IsWritten n (decimal n)
+pub written : (n : ℕ) → n < 10 ^ 64 → IsWritten n (decimal n)
 written = decimal_by_steps_wide IsWritten written_one written_more
 
 is_number_from : (n : ℕ) (ds : List ℕ) → IsWritten n ds → is_number ds ≡ true
@@ -90,8 +90,11 @@ number_shown-named name n rest word small =
     ap (λ (w : Option (List ℕ)). option_and_then number_of w) (second_word name (decimal n) rest word (written n small).no_space) ∙ number_of-decimal n small
 
 -- no name has a space
-ok_word : All (λ d. (d == 32) ≡ false) (codes "ok")
+pub ok_word : All (λ d. (d == 32) ≡ false) (codes "ok")
 ok_word = All-from_recursion (λ d. (d == 32) ≡ false) (codes "ok") (refl, (refl, tt))
+
+pub power_word : All (λ d. (d == 32) ≡ false) (codes "power")
+power_word = All-from_recursion (λ d. (d == 32) ≡ false) (codes "power") (refl, (refl, (refl, (refl, (refl, tt)))))
 
 opt_word : All (λ d. (d == 32) ≡ false) (codes "opt")
 opt_word = All-from_recursion (λ d. (d == 32) ≡ false) (codes "opt") (refl, (refl, (refl, tt)))
@@ -104,6 +107,12 @@ number_shown-ok_text c r small =
     let rest = decimal (litres_of c r.register) ++ codes " " ++ signed_decimal r.register.energy_mj ++ codes " " ++ decimal r.register.bound_mj ++ codes "\n" in
     let text : ok_text c r ≡ codes "ok" ++ 32 ∷ (decimal r.seq ++ 32 ∷ rest) = simp append_assoc refl in
     ap number_shown text ∙ number_shown-named (codes "ok") r.seq rest ok_word small
+
+pub number_shown-power_text : (c : Settings) (r : MeterRecord) → r.seq < 10 ^ 64 → number_shown (power_text c r) ≡ Some r.seq
+number_shown-power_text c r small =
+    let rest = decimal (litres_of c r.register) ++ codes " " ++ signed_decimal r.register.energy_mj ++ codes " " ++ decimal r.register.bound_mj ++ codes "\n" in
+    let text : power_text c r ≡ codes "power" ++ 32 ∷ (decimal r.seq ++ 32 ∷ rest) = simp append_assoc refl in
+    ap number_shown text ∙ number_shown-named (codes "power") r.seq rest power_word small
 
 number_shown-readout_text : (name : List ℕ) (r : MeterRecord) (reply : Option (List ℕ)) → All (λ d. (d == 32) ≡ false) name → r.seq < 10 ^ 64 → number_shown (readout_text name r reply) ≡ Some r.seq
 number_shown-readout_text name r reply word small =

@@ -1,5 +1,5 @@
 -- A run of one line on a new meter of the standard configuration: what its memory holds before and after the output line.
-use Rattle.std.proofs.Common.{◌≡◌, ℕ, ◌≤◌, lit≤, List, [], ◌∷◌, ◌++◌, replicate, pos, Some, refl, sym, ap, ◌∙◌, inl, inr, arith, codes}
+use Rattle.std.proofs.Common.{◌≡◌, ℕ, ◌≤◌, lit<, lit≤, List, [], ◌∷◌, ◌++◌, replicate, pos, Some, refl, sym, ap, ◌∙◌, inl, inr, arith, codes}
 use Rattle.metering_model.specs.Events.{Pulse}
 use Rattle.metering_model.specs.Records.{MeterRecord}
 use Rattle.trace_model.specs.Trace.{Trace, Start, ◌▷◌, Store, Sync, Put}
@@ -12,6 +12,8 @@ use Rattle.optical_model.proofs.Worked.{after_three}
 use Rattle.show_model.proofs.Worked.{standard}
 use Rattle.pairing_model.specs.Journal.{at_start}
 use Rattle.pairing_model.proofs.Worked.{answer_to_pulses, kept, opening}
+use Rattle.recovery_model.specs.Bounded.{held_events}
+use Rattle.recovery_model.specs.Decided.{IsShort}
 use Rattle.recovery_model.specs.Right.{IsRight, HoldsShown}
 use Rattle.recovery_model.specs.Shown.{number_shown}
 
@@ -118,6 +120,23 @@ after_line = record {
   acknowledged = ((λ k shows. let same : 1 ≡ k = same_number 1 k shows in omega arith), tt);
 }
 
+-- the events that the record stands for: none, the one under way, and the one kept
+held_none : held_events without_event ≡ []
+unfolding without_event
+held_none = refl
+
+held_next : held_events with_event ≡ record { event = Pulse 3; energy_mj = pos 0; bound_mj = 0 } ∷ []
+unfolding with_event
+held_next = refl
+
+held_kept : held_events after_line ≡ record { event = Pulse 3; energy_mj = pos 0; bound_mj = 0 } ∷ []
+unfolding after_line
+held_kept = refl
+
+-- the words of its line are short
+short_line : IsShort (codes "ok 1 30 0 0\n")
+short_line five = (lit< tt, (lit< tt, (lit< tt, (lit< tt, (lit< tt, tt)))))
+
 line_of_held : HoldsShown standard opening script acknowledged (codes "ok 1 30 0 0\n") gate_stored
 line_of_held = record {
   all = record {
@@ -128,7 +147,7 @@ line_of_held = record {
     holds = gate_holds;
     stands = record { in_order = refl; is = refl };
   };
-  shows = refl;
+  shows = inl refl;
 }
 
 -- a memory without it is not right

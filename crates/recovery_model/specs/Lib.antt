@@ -1,3 +1,4 @@
 pub mod Shown
 pub mod Right
 pub mod Bounded
+pub mod Decided

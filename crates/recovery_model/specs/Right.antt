@@ -10,6 +10,7 @@ use Rattle.trace_model.specs.Moments.{Leaves}
 use Rattle.config_model.specs.Configuration.{Configuration}
 use Rattle.memory_model.specs.Stored.{Side, Holds, stored}
 use Rattle.journal_model.specs.Faults.{fault_of}
+use Rattle.journal_model.specs.Texts.{armed_text}
 use Rattle.pairing_model.specs.Settings.{settings_for}
 use Rattle.pairing_model.specs.Setup.{Setup, on_memory, settings_in}
 use Rattle.pairing_model.specs.Journal.{Journal, at_start}
@@ -55,10 +56,10 @@ pub record HoldsKept (c : Configuration) (o : MeterRecord) (lines : List (List �
   pub holds : stored image ≡ Holds c held side
   pub stands : StandsFor (settings_for c) o journal.kept held
 
--- and the output line shows its events
+-- and the output line shows its events, where it shows a number of events at all
 pub record HoldsShown (c : Configuration) (o : MeterRecord) (lines : List (List ℕ)) (moment : Trace) (text : List ℕ) (image : List ℕ) : Type 0 where
   pub all : HoldsKept c o lines moment image
-  pub shows : number_shown text ≡ Some all.held.seq
+  pub shows : (number_shown text ≡ Some all.held.seq) ⊎ (text ≡ armed_text)
 
 -- where the last that happened is an output line, each image before it held already what the line shows
 abbrev pub HeldBefore : Configuration → MeterRecord → List (List ℕ) → Trace → Type 0

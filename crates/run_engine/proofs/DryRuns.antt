@@ -1,12 +1,10 @@
 -- How a run without a memory begins and goes on.
-use Rattle.std.proofs.Common.{◌≡◌, ℕ, ◌+◌, List, [], ◌∷◌, Ok, refl, sym, ap, subst, ◌∙◌, arith}
+use Rattle.std.proofs.Common.{◌≡◌, ℕ, ◌+◌, List, [], Ok, refl, sym, ap, subst, ◌∙◌, arith}
 use Rattle.metering_model.specs.Settings.{Settings}
 use Rattle.metering_model.specs.Integral.{TakesEvent}
 use Rattle.metering_model.specs.Records.{MeterRecord}
 use Rattle.script_model.specs.Grammar as grammar
-use Rattle.script_model.specs.Lines.{lines_of}
 use Rattle.trace_model.specs.Trace.{IsFresh, Put, Start, Trace, ◌▷◌, base_of}
-use Rattle.trace_model.specs.Output.{output_lines}
 use Rattle.journal_model.specs.Faults.{Dry, said_fault}
 use Rattle.journal_model.specs.Texts.{ok_text}
 use Rattle.journal_model.proofs.Texts.{IsPrintable}
@@ -20,7 +18,7 @@ use Rattle.run_engine.specs.Going.{Going}
 use Rattle.run_engine.specs.Ran.{Ran}
 use Rattle.run_engine.specs.Takes.{TakesDry, TakesLine}
 use Rattle.run_engine.proofs.Nothing.{stands_nothing}
-use Rattle.run_engine.proofs.Runs.{Answered, at_once, event_answered, failed, goes_on, next_journal, ran_to}
+use Rattle.run_engine.proofs.Runs.{Answered, at_once, event_answered, failed, goes_on, next_journal}
 
 -- before the first line
 module _ (script : List ℕ) (t : Trace) (fresh : IsFresh t) where
@@ -36,7 +34,7 @@ module _ (script rest : List ℕ) (n : ℕ) (j : Journal) (r : MeterRecord) (t :
   later = next_journal dry_setup dry_opening script rest n j r t g line after first new takes
 
   answered : Answered dry_setup dry_opening n j line [] text later new
-  answered = event_answered dry_setup dry_opening script rest n j r t g line after first new takes [] text (λ event. refl) is printable
+  answered = event_answered dry_setup dry_opening script rest n j r t g line after first new takes [] text refl is printable
 
   pub dry_goes_on : (later : Journal) × Going dry_setup dry_opening script after (n + 1) later new (t ▷ Put text)
   dry_goes_on = (later, goes_on dry_setup dry_opening script rest n j r t g line after first t [] text later new answered (at_once t g.nothing))

@@ -16,6 +16,7 @@ use Rattle.config_model.specs.Configuration.{Configuration}
 use Rattle.memory_model.specs.Stored.{Side, Holds}
 use Rattle.pairing_model.specs.Setup.{on_memory}
 use Rattle.pairing_model.specs.Journal.{Journal}
+use Rattle.journal_model.specs.Texts.{armed_text}
 use Rattle.recovery_model.specs.Shown.{number_shown}
 use Rattle.recovery_model.specs.Right.{IsRight}
 use Rattle.meter_board.specs.Puts.{PutsFront}
@@ -35,7 +36,7 @@ pub record IsHeldFor (c : Configuration) (o : MeterRecord) (script : List ℕ) (
   pub settled : NothingPending u
   pub holds : Leaves (commits.StandsFor (Holds c new side)) u
   pub right : (p : Trace) (image : List ℕ) → output_lines p ≡ output_lines t → commits.StandsFor (Holds c new side) image → IsRight c o (lines_of script) p image
-  pub shows : number_shown text ≡ Some new.seq
+  pub shows : (number_shown text ≡ Some new.seq) ⊎ (text ≡ armed_text)
   pub small : new.seq < 10 ^ 64
 
 module _ (c : Configuration) (o : MeterRecord) (script rest : List ℕ) (n : ℕ) (j : Journal) (r : MeterRecord) (t : Trace) (g : Going (on_memory c) o script rest n j r t) (line after : List ℕ) (first : IsFirst rest line after)

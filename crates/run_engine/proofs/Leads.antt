@@ -1,14 +1,17 @@
 -- What the answer to a line leads to: the next line, or the end of the run.
-use Rattle.std.proofs.Common.{◌≡◌, ℕ, ◌+◌, List, ◌∷◌, None, Some, Result, Ok, Err, sym, ap, ◌∙◌, subst, arith}
+use Rattle.std.proofs.Common.{◌≡◌, ℕ, ◌+◌, false, List, None, Some, Result, Ok, Err, sym, ap, ◌∙◌, subst, arith}
 use Rattle.metering_model.specs.Events as events
 use Rattle.metering_model.specs.Integral.{TakesEvent}
 use Rattle.metering_model.specs.Records as records
 use Rattle.metering_model.specs.Settings.{Settings}
-use Rattle.script_model.specs.Lines.{lines_of}
-use Rattle.script_model.specs.Grammar.{Metering, Opt, Mbus}
-use Rattle.trace_model.specs.Trace.{Trace}
+use Rattle.script_model.specs.Grammar as grammar
+use Rattle.script_model.specs.Grammar.{Metering, Power, Opt, Mbus}
+use Rattle.trace_model.specs.Trace as entries
+use Rattle.trace_model.specs.Trace.{Trace, ◌▷◌}
 use Rattle.trace_model.specs.Images.{IsImage}
 use Rattle.config_model.specs.Configuration.{Configuration}
+use Rattle.memory_model.specs.Stored.{stored}
+use Rattle.meter_board.specs.declared.refusal.Refusal.TheVariants.{Failed, Cut}
 use Rattle.journal_model.specs.Faults.{Run, event_fault}
 use Rattle.journal_model.specs.Texts.{ok_text}
 use Rattle.journal_model.proofs.Texts.{IsPrintable}
@@ -25,19 +28,20 @@ use Rattle.mbus_records.specs.declared.slave.Slave.{Slave}
 use Rattle.register_store.specs.declared.side.Side.{Side}
 use Rattle.register_store.specs.Recovered.{side_view}
 use Rattle.run_engine.specs.declared.Ended.{Ended}
-use Rattle.run_engine.specs.declared.Ended.TheVariants.{Done, Line, Memory, Read, Write, Unformatted, Foreign, Cut}
+use Rattle.run_engine.specs.declared.Ended.TheVariants.{Done, Line, Memory, Read, Write, Unformatted, Foreign}
 use Rattle.run_engine.specs.declared.station.Station.{Station}
 use Rattle.run_engine.specs.Going.{Between, IsReady, Leads}
 use Rattle.run_engine.specs.Run.{RanOnMemory}
 use Rattle.run_engine.specs.Shows.{ShowGives, ShowsOnBus, ShowsReply}
-use Rattle.run_engine.specs.Steps.{HoldGives}
+use Rattle.run_engine.specs.Steps.{HoldGives, OrderGives, RestartGives}
 use Rattle.event_script.specs.Next.{IsFirst, SaysAt}
 use Rattle.event_script.proofs.Says.{decides}
 use Rattle.run_engine.specs.Takes.{TakesLine}
 use Rattle.run_engine.proofs.Nothing.{few_litres, settings_same}
 use Rattle.run_engine.proofs.Readouts.{bytes_end, bytes_go_on, message_ends, message_goes_on, head_journal}
 use Rattle.run_engine.proofs.Runs.{next_journal, printable}
-use Rattle.run_engine.proofs.RunsOnMemory.{event_held, event_unshown, hold_ends, refused_on}
+use Rattle.run_engine.proofs.PowerFailures.{event_restarts, order_ends, ordered, power_failed, power_restarts}
+use Rattle.run_engine.proofs.RunsOnMemory.{event_held, event_unshown, memory_failed, refused_on}
 
 module _ (c : Configuration) (o : records.MeterRecord) (script rest : List ℕ) (n : ℕ) (station : Station) (reads : List ℕ) (t : Trace) (ready : IsReady c o script rest n station reads t) (line after : List ℕ) (first : IsFirst rest line after) (is : c ≡ config_view station.meter.config) where
   abbrev r : records.MeterRecord
@@ -60,13 +64,22 @@ module _ (c : Configuration) (o : records.MeterRecord) (script rest : List ℕ) 
       can_print : IsPrintable (settings_for c) (record_view meter.record)
       can_print = subst (λ (k : Configuration). IsPrintable (settings_for k) (record_view meter.record)) (sym is) (printable (settings_for (config_view station.meter.config)) meter.record (few_litres station.meter.config.per_pulse station.meter.config.per_pulse_in_range))
 
-      pub hold_leads : (u : Trace) (reads' : List ℕ) (ended : Ended) → HoldGives c (side_view station.side) r (record_view meter.record) t (Err ended) u reads' → RanOnMemory c o script u ended
-      hold_leads = hold_ends c o script rest n ready.journal r (side_view station.side) reads t ready.between line after first (record_view meter.record) line_takes (omega (arith, station.meter.record.seq_in_range)) can_print
+      -- where the memory failed
+      pub hold_stops : (u : Trace) (reads' : List ℕ) → HoldGives c (side_view station.side) r (record_view meter.record) t (Err Failed) u reads' → RanOnMemory c o script u Memory
+      hold_stops u reads' gives =
+          memory_failed c o script rest n ready.journal r (side_view station.side) reads t ready.between line after first (record_view meter.record) line_takes (omega (arith, station.meter.record.seq_in_range)) can_print u gives
+
+      -- where the power failed, and the station was started anew
+      pub cut_leads : (u : Trace) (reads' : List ℕ) → HoldGives c (side_view station.side) r (record_view meter.record) t (Err Cut) u reads' → IsImage u reads' → {T : Type 0} (restarted : Station) (t' : Trace) (reads'' : List ℕ) (result : Result T Ended)
+          → reads'' ≡ reads' → IsImage t' reads'' → RestartGives (stored reads') u restarted t' result → Leads c o script after (n + 1) restarted reads'' t' result
+      cut_leads u reads' gives of restarted t' reads'' result same of' told =
+          event_restarts c o script rest n ready.journal r (side_view station.side) reads t ready.between line after first (record_view meter.record) line_takes (omega (arith, station.meter.record.seq_in_range)) can_print u reads' gives.0 gives.1 restarted t' reads'' result of same of' told
 
       module _ (u : Trace) (reads' : List ℕ) (turned : Side) (held : HoldGives c (side_view station.side) r (record_view meter.record) t (Ok turned) u reads') (t' : Trace) (after_reads : List ℕ) (same_reads : after_reads ≡ reads') (of : IsImage t' after_reads) where
         -- where the record was held on this side, and then its line went out, or not whole
         pub show_leads : {T : Type 0} (result : Result T Ended) → ShowGives u (ok_text (settings_of meter.config) (record_view meter.record)) result t' → Leads c o script after (n + 1) (record station { meter = meter; side = turned }) after_reads t' result
         show_leads (Ok x) shows = record {
+          config = is ∙ ap config_view (sym same);
           journal = next_journal (on_memory c) o script rest n ready.journal r t ready.between.going line after first (record_view meter.record) line_takes;
           between = subst (λ (k : List ℕ). Between c o script after (n + 1) (next_journal (on_memory c) o script rest n ready.journal r t ready.between.going line after first (record_view meter.record) line_takes) (record_view meter.record) (side_view turned) k t') (sym same_reads)
               (subst (Between c o script after (n + 1) (next_journal (on_memory c) o script rest n ready.journal r t ready.between.going line after first (record_view meter.record) line_takes) (record_view meter.record) (side_view turned) reads') (sym shows)
@@ -78,7 +91,6 @@ module _ (c : Configuration) (o : records.MeterRecord) (script rest : List ℕ) 
         show_leads (Err Write) shows =
             event_unshown c o script rest n ready.journal r (side_view station.side) reads t ready.between line after first (record_view meter.record) line_takes (omega (arith, station.meter.record.seq_in_range)) can_print u reads' turned held _ text t' shows
         show_leads (Err Memory) shows = absurd shows
-        show_leads (Err Cut) shows = absurd shows
         show_leads (Err Done) shows = absurd shows
         show_leads (Err (Line m kind)) shows = absurd shows
         show_leads (Err Read) shows = absurd shows
@@ -89,6 +101,7 @@ module _ (c : Configuration) (o : records.MeterRecord) (script rest : List ℕ) 
     pub message_leads : {T : Type 0} (message : List ℕ) (optical : Optical) (result : Result T Ended) → SaysAt n line (Opt message) → Heard (config_view station.meter.config) (Some message) optical
         → ShowsReply (config_view station.meter.config) r ready.journal.last_message message t result t' → Leads c o script after (n + 1) (record station { optical = optical }) reads' t' result
     message_leads message optical (Ok u) says heard shows = record {
+      config = is;
       journal = head_journal c o script rest n ready.journal r (side_view station.side) reads t ready.between line after first (omega (arith, station.meter.record.seq_in_range)) message says;
       between = message_goes_on c o script rest n ready.journal r (side_view station.side) reads t ready.between line after first (omega (arith, station.meter.record.seq_in_range)) message says u t' reads'
           (subst (λ (k : Configuration). ShowsReply k r ready.journal.last_message message t (Ok u) t') (sym is) shows) same of;
@@ -104,7 +117,28 @@ module _ (c : Configuration) (o : records.MeterRecord) (script rest : List ℕ) 
     bytes_lead bytes slave (Ok u) says shows =
         let on = bytes_go_on c o script rest n ready.journal r (side_view station.side) reads t ready.between line after first (omega (arith, station.meter.record.seq_in_range)) bytes says u slave t' reads'
         (subst (λ (k : Configuration). ShowsOnBus k r ready.journal.frames bytes slave t (Ok u) t') (sym is) shows) same of in
-        record { journal = on.journal; between = on.between; head = subst (λ last. Heard c last station.optical) (sym on.head) ready.head; bus = on.bus }
+        record { config = is; journal = on.journal; between = on.between; head = subst (λ last. Heard c last station.optical) (sym on.head) ready.head; bus = on.bus }
     bytes_lead {T} bytes slave (Err ended) says shows =
         bytes_end c o script rest n ready.journal r (side_view station.side) reads t ready.between line after first (omega (arith, station.meter.record.seq_in_range)) bytes says {T = T} slave t' ended
         (subst (λ (k : Configuration). ShowsOnBus k r ready.journal.frames bytes slave {T = T} t (Err ended) t') (sym is) shows)
+
+    -- the order of a cut
+    pub order_leads : {T : Type 0} (k keep fill : ℕ) (result : Result T Ended) → SaysAt n line (grammar.Cut k keep fill) → OrderGives k keep fill t result t' → Leads c o script after (n + 1) station reads' t' result
+    order_leads k keep fill (Ok u) says gives = record {
+      config = is;
+      journal = ready.journal;
+      between = ordered c o script rest n ready.journal r (side_view station.side) reads t ready.between line after first (omega (arith, station.meter.record.seq_in_range)) k keep fill says t' reads' gives same of;
+      head = ready.head;
+      bus = ready.bus;
+    }
+    order_leads {T} k keep fill (Err ended) says gives = order_ends c o script rest n ready.journal r (side_view station.side) reads t ready.between line after first (omega (arith, station.meter.record.seq_in_range)) k keep fill says T t' ended gives
+
+  -- a power failure of its own: none came, as the memory failed
+  pub power_stops : SaysAt n line Power → RanOnMemory c o script t Memory
+  power_stops says = power_failed c o script rest n ready.journal r (side_view station.side) reads t ready.between line after first (omega (arith, station.meter.record.seq_in_range)) says
+
+  -- or it came, and the station was started anew
+  pub power_leads : SaysAt n line Power → (reads' : List ℕ) → IsImage (t ▷ entries.Cut false reads') reads' → IsImage t reads' → {T : Type 0} (restarted : Station) (t' : Trace) (reads'' : List ℕ) (result : Result T Ended)
+      → reads'' ≡ reads' → IsImage t' reads'' → RestartGives (stored reads') (t ▷ entries.Cut false reads') restarted t' result → Leads c o script after (n + 1) restarted reads'' t' result
+  power_leads says reads' of before restarted t' reads'' result same of' told =
+      power_restarts c o script rest n ready.journal r (side_view station.side) reads t ready.between line after first (omega (arith, station.meter.record.seq_in_range)) says reads' of before restarted t' reads'' result same of' told

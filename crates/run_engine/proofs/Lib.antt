@@ -7,7 +7,8 @@ pub mod OnMemory
 pub mod GoesOut
 pub mod RunsOnMemory
 pub mod Readouts
+pub mod PowerFailures
+pub mod FewLost
 pub mod Leads
 pub mod Unanswered
-pub mod Bounded
 pub mod Reading

@@ -5,11 +5,9 @@ use Rattle.std.specs.List.{list_all}
 use Rattle.std.proofs.lemmas.Bool.{both_ways}
 use Rattle.std.proofs.lemmas.List.Elements.{All-cons, All-head, All-tail}
 use Rattle.std.proofs.lemmas.List.Sums.{sum_by-append}
-use Rattle.metering_model.specs.Events.{Event}
 use Rattle.metering_model.specs.Records.{MeterRecord, StandsFor}
 use Rattle.metering_model.specs.Integral.{AllFitClosely}
 use Rattle.script_model.specs.Lines.{lines_of}
-use Rattle.script_model.specs.Grammar.{Metering}
 use Rattle.trace_model.specs.Trace.{Entry, Store, Sync, Missed, Put, Arm, Cut, Trace, ◌▷◌}
 use Rattle.trace_model.specs.Output.{OutputLine, is_output_line, output_lines, open_segment}
 use Rattle.trace_model.specs.Moments.{IsPrefix, Leaves}
@@ -21,11 +19,11 @@ use Rattle.memory_model.specs.Stored.{Side, Holds}
 use Rattle.pairing_model.specs.Settings.{settings_for}
 use Rattle.pairing_model.specs.Setup.{on_memory}
 use Rattle.pairing_model.specs.Journal.{Journal, at_start}
-use Rattle.pairing_model.specs.Pairing.{Pairs, may_stand}
+use Rattle.pairing_model.specs.Pairing.{IsCutWork, IsWork, Pairs, is_work}
 use Rattle.recovery_model.specs.Right.{HeldBefore, HoldsKept, IsRight, NextIsEvent, StandsForNext}
 use Rattle.recovery_model.proofs.Acknowledged.{show_at_most}
 use Rattle.register_store.specs.Commits as commits
-use Rattle.register_store.specs.Commits.{HoldsEither, other}
+use Rattle.register_store.specs.Commits.{EndsCut, HoldsEither, other}
 use Rattle.register_store.specs.Works.{is_store, is_sync, is_forced_cut, is_other}
 use Rattle.register_store.proofs.MemoryAlone.{MemoryAlone, FrontAlone, MemoryStretch, front_counts, memory_alone, no_line, with_entries}
 use Rattle.event_script.specs.Next.{IsFirst}
@@ -37,16 +35,16 @@ use Rattle.run_engine.proofs.Runs.{Reached, line_at, next_fits, next_stands, tak
 
 -- ---- the entries of a stretch
 
--- the memory's entries may stand before an answer where no power is cut
-pub allowed : (es : List Entry) (event : Event) → All (λ (e : Entry). is_other e ≡ false) es → count_by is_forced_cut es ≡ 0 → list_all (may_stand (Metering event)) es ≡ true
-allowed [] event own none = refl
-allowed (Store at bytes ∷ es) event own none = allowed es event (All-tail (λ (e : Entry). is_other e ≡ false) (Store at bytes) es own) none
-allowed (Sync ∷ es) event own none = allowed es event (All-tail (λ (e : Entry). is_other e ≡ false) Sync es own) none
-allowed (Missed ∷ es) event own none = allowed es event (All-tail (λ (e : Entry). is_other e ≡ false) Missed es own) none
-allowed (Put bytes ∷ es) event own none = absurd (both_ways true (All-head (λ (e : Entry). is_other e ≡ false) (Put bytes) es own) refl)
-allowed (Arm n keep fill ∷ es) event own none = absurd (both_ways true (All-head (λ (e : Entry). is_other e ≡ false) (Arm n keep fill) es own) refl)
-allowed (Cut true image ∷ es) event own none = absurd (omega (arith, none, sum_by-append (λ (x : Entry). cond (is_forced_cut x) 1 0) (Cut true image ∷ []) es))
-allowed (Cut false image ∷ es) event own none = absurd (both_ways true (All-head (λ (e : Entry). is_other e ≡ false) (Cut false image) es own) refl)
+-- the memory's entries are work where no power is cut
+pub work : (es : List Entry) → All (λ (e : Entry). is_other e ≡ false) es → count_by is_forced_cut es ≡ 0 → list_all is_work es ≡ true
+work [] own none = refl
+work (Store at bytes ∷ es) own none = work es (All-tail (λ (e : Entry). is_other e ≡ false) (Store at bytes) es own) none
+work (Sync ∷ es) own none = work es (All-tail (λ (e : Entry). is_other e ≡ false) Sync es own) none
+work (Missed ∷ es) own none = work es (All-tail (λ (e : Entry). is_other e ≡ false) Missed es own) none
+work (Put bytes ∷ es) own none = absurd (both_ways true (All-head (λ (e : Entry). is_other e ≡ false) (Put bytes) es own) refl)
+work (Arm n keep fill ∷ es) own none = absurd (both_ways true (All-head (λ (e : Entry). is_other e ≡ false) (Arm n keep fill) es own) refl)
+work (Cut true image ∷ es) own none = absurd (omega (arith, none, sum_by-append (λ (x : Entry). cond (is_forced_cut x) 1 0) (Cut true image ∷ []) es))
+work (Cut false image ∷ es) own none = absurd (both_ways true (All-head (λ (e : Entry). is_other e ≡ false) (Cut false image) es own) refl)
 
 pub all_front : {X : Type 0} (P : X → Type 0) (xs ys : List X) → All P (xs ++ ys) → All P xs
 all_front P [] ys h = λ k d lt. absurd (omega (arith, lt))
@@ -181,7 +179,24 @@ module _ (c : Configuration) (o : MeterRecord) (script : List ℕ) where
     pub reached : (u : Trace) (commit : Commits c side r new 0 t u) → Reached t u (stretch 0 u commit).entries
     reached u commit = let s = stretch 0 u commit in record { outputs = s.alone.lines; segment = own_segment u s.entries s.alone }
 
-    pub uncut : (u : Trace) (commit : Commits c side r new 0 t u) (event : Event) → list_all (may_stand (Metering event)) (stretch 0 u commit).entries ≡ true
-    uncut u commit event =
+    pub uncut : (u : Trace) (commit : Commits c side r new 0 t u) → IsWork (stretch 0 u commit).entries
+    uncut u commit =
         let s = stretch 0 u commit in
-        allowed s.entries event s.alone.memory (omega (arith, s.alone.counts is_forced_cut, commit.works.forced_cuts))
+        work s.entries s.alone.memory (omega (arith, s.alone.counts is_forced_cut, commit.works.forced_cuts))
+
+    -- and where it was
+    pub cut_reached : (u : Trace) (commit : Commits c side r new 1 t u) → Reached t u (stretch 1 u commit).entries
+    cut_reached u commit = let s = stretch 1 u commit in record { outputs = s.alone.lines; segment = own_segment u s.entries s.alone }
+
+    pub cut_within : (u : Trace) (reads' : List ℕ) (commit : Commits c side r new 1 t u) → EndsCut (HoldsEither c side r new) u reads' → IsCutWork (stretch 1 u commit).entries
+    cut_within u reads' commit ends =
+        let s = stretch 1 u commit in
+        let one : count_by is_forced_cut s.entries ≡ 1 = omega (arith, s.alone.counts is_forced_cut, commit.works.forced_cuts) in
+        by_last s.entries one s.alone.memory (last_of t ends.before s.entries (Cut true reads') (sym s.alone.grown ∙ ends.last))
+      where
+        by_last : (es : List Entry) → count_by is_forced_cut es ≡ 1 → All (λ (e : Entry). is_other e ≡ false) es → (es ≡ []) ⊎ ((front : List Entry) × (es ≡ front ++ Cut true reads' ∷ [])) → IsCutWork es
+        by_last es one own (inl none) = absurd (omega (arith, one, ap (count_by is_forced_cut) none))
+        by_last es one own (inr found) =
+            let whole : count_by is_forced_cut es ≡ count_by is_forced_cut found.0 + 1 = ap (count_by is_forced_cut) found.1 ∙ sum_by-append (λ (x : Entry). cond (is_forced_cut x) 1 0) found.0 (Cut true reads' ∷ []) in
+            let own_front = all_front (λ (e : Entry). is_other e ≡ false) found.0 (Cut true reads' ∷ []) (subst (All (λ (e : Entry). is_other e ≡ false)) found.1 own) in
+            record { work = found.0; image = reads'; is = found.1; worked = work found.0 own_front (omega (arith, one, whole)) }

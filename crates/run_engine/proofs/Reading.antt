@@ -1,18 +1,17 @@
 -- How a run ends where the script does, at a line that is refused whatever the record in force, or at a read that failed.
-use Rattle.std.proofs.Common.{◌≡◌, ℕ, ◌+◌, List, [], ◌++◌, length, true, Err, refl, sym, ap, ◌∙◌, subst, arith, length-append}
+use Rattle.std.proofs.Common.{◌≡◌, ℕ, List, [], ◌++◌, length, true, Err, sym, ap, ◌∙◌, subst, arith, length-append}
 use Rattle.std.proofs.lemmas.List.{nil_from_length}
 use Rattle.metering_model.specs.Records.{MeterRecord}
-use Rattle.script_model.specs.Lines.{after_line, after_lines, lines_of}
+use Rattle.script_model.specs.Lines.{after_line, after_lines}
 use Rattle.trace_model.specs.Trace.{Trace}
 use Rattle.trace_model.specs.Output.{output_lines}
 use Rattle.config_model.specs.Configuration.{Configuration}
-use Rattle.journal_model.specs.Faults.{Fault, fault_of, is_open}
+use Rattle.journal_model.specs.Faults.{is_open}
 use Rattle.memory_model.specs.Stored.{Side}
 use Rattle.pairing_model.specs.Setup.{Setup, on_memory}
 use Rattle.pairing_model.specs.Journal.{Journal}
-use Rattle.event_script.specs.declared.LineFault.{LineFault}
 use Rattle.run_engine.specs.declared.Ended.{Ended}
-use Rattle.run_engine.specs.declared.Ended.TheVariants.{Done, Line, Memory, Read, Write, Unformatted, Foreign, Cut}
+use Rattle.run_engine.specs.declared.Ended.TheVariants.{Done, Line, Memory, Read, Write, Unformatted, Foreign}
 use Rattle.run_engine.specs.Going.{Between, Going}
 use Rattle.run_engine.specs.Ran.{Ran, StopsAtRead}
 use Rattle.run_engine.specs.Reads.{NextLine}
@@ -27,7 +26,6 @@ module _ (s : Setup) (o : MeterRecord) (script bytes : List ℕ) (n : ℕ) (j : 
   ends_reading left Read h = ran_to s o script j t Read g.pairs g.fits g.nothing
   ends_reading left Memory h = absurd h
   ends_reading left Write h = absurd h
-  ends_reading left Cut h = absurd h
   ends_reading left (Unformatted byte) h = absurd h
   ends_reading left (Foreign at) h = absurd h
 
@@ -54,6 +52,5 @@ module _ (c : Configuration) (o : MeterRecord) (script bytes : List ℕ) (n : �
   ends_reading_on left Read h = record { ran = ends_reading (on_memory c) o script bytes n j r t b.going left Read h; sound = b.sound; held = between_holds c o script bytes n j r side reads t b }
   ends_reading_on left Memory h = absurd h
   ends_reading_on left Write h = absurd h
-  ends_reading_on left Cut h = absurd h
   ends_reading_on left (Unformatted byte) h = absurd h
   ends_reading_on left (Foreign at) h = absurd h

@@ -26,7 +26,7 @@ use Rattle.mbus_records.specs.State.{IsAfter}
 use Rattle.mbus_records.specs.declared.slave.Slave.{Slave}
 use Rattle.register_store.specs.Commits as commits
 use Rattle.run_engine.specs.declared.Ended.{Ended}
-use Rattle.run_engine.specs.declared.Ended.TheVariants.{Done, Line, Memory, Read, Write, Unformatted, Foreign, Cut}
+use Rattle.run_engine.specs.declared.Ended.TheVariants.{Done, Line, Memory, Read, Write, Unformatted, Foreign}
 use Rattle.run_engine.specs.Going.{Between}
 use Rattle.run_engine.specs.Run.{RanOnMemory}
 use Rattle.run_engine.specs.Shows.{RepliesOnBus, ShowGives, ShowsOnBus, ShowsReply}
@@ -47,7 +47,7 @@ module _ (c : Configuration) (o : MeterRecord) (script rest : List ℕ) (n : ℕ
     settled = b.settled;
     holds = λ image of. subst (commits.StandsFor (Holds c r side)) (one_image t reads image b.settled b.possible of) b.holds;
     right = λ p image same holds. kept_right c o script p image j r side (subst (λ (outputs : List OutputLine). Pairs (on_memory c) o 0 at_start (lines_of script) outputs j) (sym same) b.going.pairs) b.going.fits small holds b.going.in_force;
-    shows = shows;
+    shows = inl shows;
     small = small;
   }
 
@@ -64,7 +64,6 @@ module _ (c : Configuration) (o : MeterRecord) (script rest : List ℕ) (n : ℕ
     pub shown_ends : (T : Type 0) (t' : Trace) (ended : Ended) → ShowGives {T = T} t text (Err ended) t' → RanOnMemory c o script t' ended
     shown_ends T t' Write gives = put_failed c o script rest n j r t b.going line after first t [] text later r a still side (held_still text shows) t' gives
     shown_ends T t' Memory gives = absurd gives
-    shown_ends T t' Cut gives = absurd gives
     shown_ends T t' Done gives = absurd gives
     shown_ends T t' (Line m kind) gives = absurd gives
     shown_ends T t' Read gives = absurd gives
@@ -88,8 +87,8 @@ module _ (c : Configuration) (o : MeterRecord) (script rest : List ℕ) (n : ℕ
           replies = subst (λ (m : MeterRecord). optical.Replies c m j.last_message message reply) is_in_force replies;
           hears = refl;
           shows = ap (λ (m : MeterRecord). opt_text m reply) is_in_force;
+          still = refl;
         };
-        segment = refl;
       };
       fits = b.going.fits;
       in_force = b.going.in_force;
@@ -120,8 +119,8 @@ module _ (c : Configuration) (o : MeterRecord) (script rest : List ℕ) (n : ℕ
           spells = spells;
           hears = ap (λ (m : MeterRecord). record j { frames = j.frames ++ record { frame = frame; in_force = m } ∷ [] }) is_in_force;
           shows = ap (mbus_text r) is ∙ ap (λ (m : MeterRecord). mbus_text m (option_map frame_bytes (reply_to c j.frames (record { frame = frame; in_force = m })))) is_in_force;
+          still = refl;
         });
-        segment = refl;
       };
       fits = b.going.fits;
       in_force = b.going.in_force;
@@ -134,8 +133,7 @@ module _ (c : Configuration) (o : MeterRecord) (script rest : List ℕ) (n : ℕ
         taken = decides says Run (in_force (on_memory c) o j);
         said = Mbus bytes;
         says = says.says;
-        reply = inr (record { no_frame = no_frame; hears = refl; shows = ap (mbus_text r) is ∙ ap (λ (m : MeterRecord). mbus_text m None) is_in_force });
-        segment = refl;
+        reply = inr (record { no_frame = no_frame; hears = refl; shows = ap (mbus_text r) is ∙ ap (λ (m : MeterRecord). mbus_text m None) is_in_force; still = refl });
       };
       fits = b.going.fits;
       in_force = b.going.in_force;

@@ -1,10 +1,9 @@
 -- The lines of a script that have their answers so far.
 use Rattle.std.proofs.Common.{◌≡◌, ℕ, ◌+◌, ◌<◌, ◌≤◌, ◌⊎◌, inl, inr, suc, zero, List, [], ◌∷◌, ◌++◌, length, drop, take, None, Some, Result, Ok, Err, false, refl, ap, sym, ◌∙◌, subst, arith, length-append, length-drop, zero-add}
 use Rattle.std.proofs.lemmas.List.{nil_from_length}
-use Rattle.std.proofs.Math.Nat.{suc-add, mul-le-mul}
-use Rattle.std.specs.List.{slice_get, list_all}
-use Rattle.std.specs.Prelude.{IsTrue}
-use Rattle.metering_model.specs.Events.{Event, Kept}
+use Rattle.std.proofs.Math.Nat.{mul-le-mul}
+use Rattle.std.specs.List.{slice_get}
+use Rattle.metering_model.specs.Events.{Kept}
 use Rattle.metering_model.specs.Settings.{Settings}
 use Rattle.metering_model.specs.Counting.{counted_by}
 use Rattle.metering_model.specs.Records.{StandsFor, record_after}
@@ -13,16 +12,17 @@ use Rattle.metering_model.specs.Integral.{AddsBy, AllFitClosely, FitsClosely}
 use Rattle.metering_model.proofs.Joined.{fit-more}
 use Rattle.script_model.specs.Lines.{after_line, lines_of}
 use Rattle.script_model.proofs.After.{after_lines-next, lines_of-after_lines}
-use Rattle.script_model.specs.Grammar.{Metering}
+use Rattle.script_model.specs.Grammar as grammar
+use Rattle.script_model.specs.Grammar.{Metering, line_of}
 use Rattle.trace_model.specs.Trace.{Entry, Put, Trace, ◌▷◌, base_of}
 use Rattle.trace_model.specs.Output.{OutputLine, PutsAlone, ends_line, output_lines, open_segment}
 use Rattle.trace_model.proofs.Lines.{output_lines-line, open_segment-line, output_lines-piece, open_segment-piece}
 use Rattle.journal_model.specs.Faults.{fault_of}
-use Rattle.journal_model.specs.Texts.{ok_text}
+use Rattle.journal_model.specs.Texts.{ok_text, power_text}
 use Rattle.journal_model.proofs.Texts.{IsOneLine, IsPrintable, one_line-ok_text}
 use Rattle.pairing_model.specs.Setup.{Setup, settings_in}
 use Rattle.pairing_model.specs.Journal.{Journal, at_start, in_force}
-use Rattle.pairing_model.specs.Pairing.{Answers, Pairs, may_stand}
+use Rattle.pairing_model.specs.Pairing.{Answers, IsWork, Pairs}
 use Rattle.pairing_model.proofs.Pairs.{pairs-more, pairs-length}
 use Rattle.meter_board.specs.Puts.{PutGives, PutsFront}
 use Rattle.billing_memory.specs.declared.meter_record.MeterRecord.{MeterRecord}
@@ -33,11 +33,11 @@ use Rattle.event_script.specs.declared.LineFault.{LineFault}
 use Rattle.event_script.specs.Views.{fault_view}
 use Rattle.run_engine.proofs.Moments.{moments_of}
 use Rattle.run_engine.specs.Going.{Going}
-use Rattle.run_engine.specs.Ran.{Ran, EndsAt}
+use Rattle.run_engine.specs.Ran.{EndsAt, FailsIn, Ran}
 use Rattle.run_engine.specs.Takes.{TakesLine}
 use Rattle.event_script.specs.Next.{IsFirst}
 use Rattle.run_engine.specs.declared.Ended.{Ended}
-use Rattle.run_engine.specs.declared.Ended.TheVariants.{Done, Line, Write}
+use Rattle.run_engine.specs.declared.Ended.TheVariants.{Done, Line, Memory, Write}
 
 -- these entries came since the answer before
 pub record Reached (t u : Trace) (es : List Entry) : Type 0 where
@@ -93,6 +93,17 @@ module _ (s : Setup) (o : records.MeterRecord) (script : List ℕ) where
         },
         g.nothing,
       )
+
+      -- the memory failed for the next line
+      pub memory_stops : (said : grammar.Line) → line_of line ≡ Ok said → fault_of s.command (in_force s o j) n line ≡ None → (u : Trace) → output_lines u ≡ output_lines t → FailsIn said (open_segment u) → Ran s o script u Memory
+      memory_stops said says taken u same fails = ran_to j u Memory (subst (λ (outputs : List OutputLine). Pairs s o 0 at_start (lines_of script) outputs j) (sym same) g.pairs) g.fits (inr (record {
+        line = line;
+        place = subst (λ (outputs : List OutputLine). slice_get (lines_of script) (length outputs) ≡ Some line) (sym same) line_at;
+        taken = subst (λ m. fault_of s.command (in_force s o j) m line ≡ None) (sym (ap length same ∙ g.count)) taken;
+        said = said;
+        says = says;
+        fails = fails;
+      }))
 
       -- ---- an answer goes out
 
@@ -161,20 +172,19 @@ module _ (s : Setup) (o : records.MeterRecord) (script : List ℕ) where
         next_fits = fit-more (settings_in s) o j.kept next_kept g.fits
             (subst (λ (m : records.MeterRecord). AddsBy (FitsClosely (settings_in s)) (counted_by (settings_in s) m.samples takes.event) takes.takes.energy_mj takes.takes.bound_mj) g.in_force.is takes.takes.fits)
 
-        next_taken : fault_of s.command (in_force s o j) n line ≡ None
+        pub next_taken : fault_of s.command (in_force s o j) n line ≡ None
         next_taken = subst (λ m. fault_of s.command m n line ≡ None) g.in_force.is takes.taken
 
         pub taken_at : fault_of s.command (in_force s o j) (length (output_lines t)) line ≡ None
         taken_at = subst (λ m. fault_of s.command (in_force s o j) m line ≡ None) (sym g.count) next_taken
 
-        pub event_answered : (es : List Entry) (text : List ℕ) → ((event : Event) → IsTrue (list_all (may_stand (Metering event)) es)) → text ≡ ok_text (settings_in s) new → IsPrintable (settings_in s) new → Answered s o n j line es text next_journal new
-        event_answered es text allowed is printable = record {
+        pub event_answered : (es : List Entry) (text : List ℕ) → IsWork es → text ≡ ok_text (settings_in s) new → IsPrintable (settings_in s) new → Answered s o n j line es text next_journal new
+        event_answered es text worked is printable = record {
           answer = record {
             taken = next_taken;
             said = Metering takes.event;
             says = takes.says;
-            reply = record { energy_mj = takes.takes.energy_mj; bound_mj = takes.takes.bound_mj; keeps = refl; shows = is ∙ ap (ok_text (settings_in s)) next_stands.is };
-            segment = allowed takes.event;
+            reply = inl (record { energy_mj = takes.takes.energy_mj; bound_mj = takes.takes.bound_mj; keeps = refl; shows = is ∙ ap (ok_text (settings_in s)) next_stands.is; worked = worked });
           };
           fits = next_fits;
           in_force = next_stands;
@@ -215,3 +225,11 @@ text_of c bytes line m seen config told same says is_m is_config settings =
 
 pub some_text : (c : Settings) (bytes : List ℕ) (m : MeterRecord) → bytes ≡ ok_text c (record_view m) → 0 < length bytes
 some_text c bytes m is = omega (arith, ap length is)
+
+-- so it is with the text of a recovered record
+pub recovered_text : (c : Settings) (bytes line : List ℕ) (m seen : MeterRecord) (config told : Config) → bytes ≡ line → ((s : Settings) → s.litres_per_pulse ≡ told.per_pulse → line ≡ power_text s (record_view seen)) → seen ≡ m → told ≡ config → settings_of config ≡ c → bytes ≡ power_text c (record_view m)
+recovered_text c bytes line m seen config told same says is_m is_config settings =
+    same ∙ says c (sym (ap (λ (k : Config). k.per_pulse) is_config ∙ ap (λ (s : Settings). s.litres_per_pulse) settings)) ∙ ap (λ (s : MeterRecord). power_text c (record_view s)) is_m
+
+pub some_recovered_text : (c : Settings) (bytes : List ℕ) (m : MeterRecord) → bytes ≡ power_text c (record_view m) → 0 < length bytes
+some_recovered_text c bytes m is = omega (arith, ap length is)

@@ -1,15 +1,10 @@
 -- How a run over a memory goes on, and how it ends.
-use Rattle.std.proofs.Common.{◌≡◌, ◌⊎◌, inl, inr, ℕ, ◌+◌, ◌^◌, ◌≤◌, ◌<◌, cond, true, false, List, [], ◌∷◌, ◌++◌, length, Some, Ok, Err, refl, sym, ap, ◌∙◌, subst, arith}
-use Rattle.std.specs.Prelude.{All, count_by, IsTrue}
-use Rattle.std.specs.List.{list_all}
-use Rattle.std.proofs.lemmas.List.Sums.{sum_by-append}
-use Rattle.metering_model.specs.Events.{Event}
+use Rattle.std.proofs.Common.{◌≡◌, inl, inr, ℕ, ◌+◌, ◌^◌, ◌≤◌, ◌<◌, List, [], length, Some, Ok, refl, sym, ap, ◌∙◌, subst, arith}
 use Rattle.metering_model.specs.Records.{MeterRecord}
 use Rattle.script_model.specs.Lines.{lines_of}
 use Rattle.script_model.specs.Grammar.{Metering}
-use Rattle.trace_model.specs.Trace.{Entry, Put, Cut, Trace, Start, ◌▷◌, IsFresh, base_of}
+use Rattle.trace_model.specs.Trace.{Entry, Put, Trace, Start, ◌▷◌, IsFresh, base_of}
 use Rattle.trace_model.specs.Images.{IsImage}
-use Rattle.trace_model.specs.Output.{OutputLine, output_lines, open_segment}
 use Rattle.trace_model.specs.Moments.{IsPrefix, Leaves}
 use Rattle.trace_model.proofs.Images.{one_image}
 use Rattle.config_model.specs.Configuration.{Configuration}
@@ -20,7 +15,6 @@ use Rattle.journal_model.proofs.Texts.{IsPrintable}
 use Rattle.pairing_model.specs.Settings.{settings_for}
 use Rattle.pairing_model.specs.Setup.{on_memory}
 use Rattle.pairing_model.specs.Journal.{Journal, at_start}
-use Rattle.pairing_model.specs.Pairing.{Pairs, may_stand}
 use Rattle.recovery_model.specs.Shown.{number_shown}
 use Rattle.recovery_model.proofs.Shown.{number_shown-ok_text}
 use Rattle.meter_board.specs.Puts.{PutsFront}
@@ -30,19 +24,17 @@ use Rattle.register_store.specs.Commits as commits
 use Rattle.register_store.specs.Commits.{EndsCut, HoldsEither, other}
 use Rattle.register_store.specs.declared.side.Side as sides
 use Rattle.register_store.specs.Recovered.{side_view}
-use Rattle.register_store.specs.Works.{is_forced_cut, is_other}
 use Rattle.register_store.proofs.MemoryAlone.{MemoryStretch}
 use Rattle.event_script.specs.Next.{IsFirst}
-use Rattle.run_engine.specs.declared.Ended.{Ended}
-use Rattle.run_engine.specs.declared.Ended.TheVariants.{Done, Line, Memory, Read, Write, Unformatted, Foreign, Cut as WasCut}
+use Rattle.run_engine.specs.declared.Ended.TheVariants.{Done, Line, Memory, Write}
 use Rattle.run_engine.specs.Going.{Between}
-use Rattle.run_engine.specs.Ran.{StopsAtCut, StopsInEvent}
+use Rattle.run_engine.specs.Ran.{FailsIn, Ran}
 use Rattle.run_engine.specs.Run.{IsSound, RanOnMemory}
 use Rattle.run_engine.specs.Steps.{Commits, HoldGives}
 use Rattle.run_engine.specs.Takes.{TakesLine}
 use Rattle.run_engine.proofs.Nothing.{stands_nothing}
-use Rattle.run_engine.proofs.Runs.{Answered, done, event_answered, next_journal, ran_to, refused}
-use Rattle.run_engine.proofs.OnMemory.{all_front, allowed, between_holds, commit_sound, kept_right, last_of, new_right, next_event, reached, stretch, uncut}
+use Rattle.run_engine.proofs.Runs.{Answered, Reached, done, event_answered, memory_stops, next_journal, next_taken, refused}
+use Rattle.run_engine.proofs.OnMemory.{between_holds, commit_sound, cut_reached, cut_within, kept_right, new_right, reached, stretch, uncut}
 use Rattle.run_engine.proofs.GoesOut.{IsHeldFor, between_next, put_failed}
 
 module _ (c : Configuration) (o : MeterRecord) (script : List ℕ) where
@@ -81,61 +73,33 @@ module _ (c : Configuration) (o : MeterRecord) (script : List ℕ) where
       -- ---- the next line is an event
 
       module _ (new : MeterRecord) (takes : TakesLine Run (settings_for c) n r line new) (old_small : r.seq < 10 ^ 64) (printable : IsPrintable (settings_for c) new) where
-        -- for the next line this happened, as its event has it
-        stops : (es : List Entry) → ((event : Event) → IsTrue (list_all (may_stand (Metering event)) es)) → StopsInEvent (on_memory c) o (lines_of script) j.kept (length (output_lines t)) es
-        stops es may = record { event = takes.event; next = next_event c o script rest n j r side reads t b line after first new takes old_small printable.seq; allowed = may takes.event }
-
-        same_pairs : (u : Trace) → output_lines u ≡ output_lines t → Pairs (on_memory c) o 0 at_start (lines_of script) (output_lines u) j
-        same_pairs u same = subst (λ (outputs : List OutputLine). Pairs (on_memory c) o 0 at_start (lines_of script) outputs j) (sym same) b.going.pairs
-
-        sound_to : (cuts : ℕ) (u : Trace) → Commits c side r new cuts t u → (p : Trace) → IsPrefix p u → IsSound c o (lines_of script) p
+        pub sound_to : (cuts : ℕ) (u : Trace) → Commits c side r new cuts t u → (p : Trace) → IsPrefix p u → IsSound c o (lines_of script) p
         sound_to = commit_sound c o script rest n j r side reads t b line after first new takes old_small printable.seq
 
-        entries_of : (cuts : ℕ) (u : Trace) → Commits c side r new cuts t u → MemoryStretch (Leaves (HoldsEither c side r new)) t u
+        abbrev pub entries_of : (cuts : ℕ) (u : Trace) → Commits c side r new cuts t u → MemoryStretch (Leaves (HoldsEither c side r new)) t u
         entries_of = stretch c o script rest n j r side reads t b line after first new takes old_small printable.seq
 
-        memory_failed : (u : Trace) → Commits c side r new 0 t u → RanOnMemory c o script u Memory
-        memory_failed u commit =
-            let at = reached c o script rest n j r side reads t b line after first new takes old_small printable.seq u commit in
-            let es = (stretch c o script rest n j r side reads t b line after first new takes old_small printable.seq 0 u commit).entries in
-            let may = uncut c o script rest n j r side reads t b line after first new takes old_small printable.seq u commit in
-            let stopped = subst (λ (outputs : List OutputLine). StopsInEvent (on_memory c) o (lines_of script) j.kept (length outputs) (open_segment u)) (sym at.outputs)
-            (subst (StopsInEvent (on_memory c) o (lines_of script) j.kept (length (output_lines t))) (sym at.segment) (stops es may)) in
-            record {
-              ran = ran_to (on_memory c) o script j u Memory (same_pairs u at.outputs) b.going.fits (inr stopped);
-              sound = sound_to 0 u commit;
-              held = tt;
-            }
+        stops : (u : Trace) (es : List Entry) → Reached t u es → FailsIn (Metering takes.event) es → Ran (on_memory c) o script u Memory
+        stops u es at fails =
+            memory_stops (on_memory c) o script rest n j r t b.going line after first (Metering takes.event) takes.says (next_taken (on_memory c) o script rest n j r t b.going line after first new takes) u at.outputs
+            (subst (FailsIn (Metering takes.event)) (sym at.segment) fails)
 
-        power_cut : (u : Trace) (reads' : List ℕ) → Commits c side r new 1 t u → EndsCut (HoldsEither c side r new) u reads' → RanOnMemory c o script u WasCut
-        power_cut u reads' commit ends =
-            let s = stretch c o script rest n j r side reads t b line after first new takes old_small printable.seq 1 u commit in
-            let one : count_by is_forced_cut s.entries ≡ 1 = omega (arith, s.alone.counts is_forced_cut, commit.works.forced_cuts) in
-            let segment : open_segment u ≡ s.entries = s.alone.segment ∙ ap (λ (l : List Entry). l ++ s.entries) b.going.nothing in
-            record {
-              ran = ran_to (on_memory c) o script j u WasCut (same_pairs u s.alone.lines) b.going.fits
-                  (subst (λ (outputs : List OutputLine). StopsAtCut (on_memory c) o (lines_of script) j.kept (length outputs) (open_segment u)) (sym s.alone.lines)
-                  (subst (StopsAtCut (on_memory c) o (lines_of script) j.kept (length (output_lines t))) (sym segment) (by_last s.entries one s.alone.memory (last_of t ends.before s.entries (Cut true reads') (sym s.alone.grown ∙ ends.last)))));
-              sound = sound_to 1 u commit;
-              held = tt;
-            } where
-              by_last : (es : List Entry) → count_by is_forced_cut es ≡ 1 → All (λ (e : Entry). is_other e ≡ false) es → (es ≡ []) ⊎ ((front : List Entry) × (es ≡ front ++ Cut true reads' ∷ [])) → StopsAtCut (on_memory c) o (lines_of script) j.kept (length (output_lines t)) es
-              by_last es one own (inl none) = absurd (omega (arith, one, ap (count_by is_forced_cut) none))
-              by_last es one own (inr found) =
-                  let whole : count_by is_forced_cut es ≡ count_by is_forced_cut found.0 + 1 = ap (count_by is_forced_cut) found.1 ∙ sum_by-append (λ (x : Entry). cond (is_forced_cut x) 1 0) found.0 (Cut true reads' ∷ []) in
-                  let own_front = all_front (λ (e : Entry). is_other e ≡ false) found.0 (Cut true reads' ∷ []) (subst (All (λ (e : Entry). is_other e ≡ false)) found.1 own) in
-                  record { before = found.0; image = reads'; is = found.1; stops = stops found.0 (λ event. allowed found.0 event own_front (omega (arith, one, whole))) }
+        pub memory_failed : (u : Trace) → Commits c side r new 0 t u → RanOnMemory c o script u Memory
+        memory_failed u commit = record {
+          ran = stops u (entries_of 0 u commit).entries (reached c o script rest n j r side reads t b line after first new takes old_small printable.seq u commit)
+              (inl (uncut c o script rest n j r side reads t b line after first new takes old_small printable.seq u commit));
+          sound = sound_to 0 u commit;
+          held = tt;
+        }
 
-        -- the memory doesn't come to hold the new record
-        pub hold_ends : (u : Trace) (reads' : List ℕ) (ended : Ended) → HoldGives c side r new t (Err ended) u reads' → RanOnMemory c o script u ended
-        hold_ends u reads' Memory gives = memory_failed u gives
-        hold_ends u reads' WasCut gives = power_cut u reads' gives.0 gives.1
-        hold_ends u reads' Write gives = absurd gives
-        hold_ends u reads' Done gives = absurd gives
-        hold_ends u reads' (Line m kind) gives = absurd gives
-        hold_ends u reads' Read gives = absurd gives
-        hold_ends u reads' (Unformatted byte) gives = absurd gives
-        hold_ends u reads' (Foreign at) gives = absurd gives
+        -- after a cut the record could not be recovered
+        pub cut_stops : (u : Trace) (reads' : List ℕ) → Commits c side r new 1 t u → EndsCut (HoldsEither c side r new) u reads' → RanOnMemory c o script u Memory
+        cut_stops u reads' commit ends = record {
+          ran = stops u (entries_of 1 u commit).entries (cut_reached c o script rest n j r side reads t b line after first new takes old_small printable.seq u commit)
+              (inr (cut_within c o script rest n j r side reads t b line after first new takes old_small printable.seq u reads' commit ends));
+          sound = sound_to 1 u commit;
+          held = tt;
+        }
 
         -- the memory holds the new record, and then its line goes out
         module _ (u : Trace) (reads' : List ℕ) (turned : sides.Side) (gives : HoldGives c side r new t (Ok turned) u reads') (text : List ℕ) (is : text ≡ ok_text (settings_for c) new) where
@@ -155,7 +119,7 @@ module _ (c : Configuration) (o : MeterRecord) (script : List ℕ) where
             settled = gives.0.settled;
             holds = gives.0.holds;
             right = new_right c o script rest n j r side reads t b line after first new takes old_small printable.seq;
-            shows = ap number_shown is ∙ number_shown-ok_text (settings_for c) new printable.seq;
+            shows = inl (ap number_shown is ∙ number_shown-ok_text (settings_for c) new printable.seq);
             small = printable.seq;
           }
 

@@ -1,26 +1,24 @@
 -- A run that answered no line, and one that must be done.
-use Rattle.std.proofs.Common.{◌≡◌, ◌⊎◌, inl, inr, ℕ, ◌≤◌, List, [], ◌++◌, length, refl, sym, ap, subst, arith}
-use Rattle.metering_model.specs.Records.{MeterRecord, StandsFor}
+use Rattle.std.proofs.Common.{◌≡◌, inl, inr, ℕ, List, [], refl, sym, ap, subst, arith}
+use Rattle.metering_model.specs.Records.{MeterRecord}
 use Rattle.script_model.specs.Lines.{lines_of}
-use Rattle.trace_model.specs.Trace.{Trace, Start, ◌▷◌, IsFresh}
+use Rattle.trace_model.specs.Trace.{Trace, IsFresh}
 use Rattle.trace_model.specs.Images.{IsImage}
 use Rattle.trace_model.specs.Output.{open_segment, output_lines}
 use Rattle.trace_model.specs.Moments.{Leaves}
 use Rattle.config_model.specs.Configuration.{Configuration}
 use Rattle.memory_model.specs.Stored as model
 use Rattle.memory_model.specs.Stored.{Side, Stored, Holds, stored}
-use Rattle.pairing_model.specs.Settings.{settings_for}
 use Rattle.pairing_model.specs.Setup.{on_memory}
-use Rattle.pairing_model.specs.Journal.{Journal, at_start}
-use Rattle.pairing_model.specs.Pairing.{NoneRefused, Pairs}
-use Rattle.recovery_model.specs.Right.{HeldBefore, HoldsKept, IsRight, StandsForNext}
+use Rattle.pairing_model.specs.Journal.{at_start}
+use Rattle.recovery_model.specs.Right.{HoldsKept}
 use Rattle.recovery_model.proofs.Held.{IsHeld, held_record}
 use Rattle.register_store.specs.Commits as commits
 use Rattle.run_engine.specs.declared.Ended.{Ended}
-use Rattle.run_engine.specs.declared.Ended.TheVariants.{Done, Line, Memory, Read, Write, Unformatted, Foreign, Cut}
+use Rattle.run_engine.specs.declared.Ended.TheVariants.{Done, Line, Memory, Read, Write, Unformatted, Foreign}
 use Rattle.run_engine.specs.Going.{Between}
-use Rattle.run_engine.specs.Ran.{EndsAt}
-use Rattle.run_engine.specs.Run.{EndsHeld, IsSound, RanOnMemory, RunLeaves}
+use Rattle.run_engine.specs.Ran.{EndsAt, IsDoneOrRefused}
+use Rattle.run_engine.specs.Run.{EndsHeld, RanOnMemory, RunLeaves}
 use Rattle.run_engine.specs.Steps.{Unreadable}
 use Rattle.run_engine.proofs.Complete.{completes}
 use Rattle.run_engine.proofs.Runs.{ran_to}
@@ -57,12 +55,12 @@ unreadable_leaves (model.Unformatted byte) reads script t (Foreign at) is fresh 
 unreadable_leaves (model.Foreign at) reads script t (Unformatted byte) is fresh of e = absurd cc
 unreadable_leaves memory reads script t Done is fresh of e = absurd e
 unreadable_leaves memory reads script t (Line n kind) is fresh of e = absurd e
-unreadable_leaves memory reads script t Cut is fresh of e = absurd e
 unreadable_leaves memory reads script t Write is fresh of e = absurd e
 unreadable_leaves memory reads script t Read is fresh of e = absurd e
 
 -- over a memory that held a configuration and a record
 pub complete_from : (memory : Stored) (c : Configuration) (o : MeterRecord) (side : Side) (script : List ℕ) (t : Trace) (ended : Ended) → memory ≡ Holds c o side → RunLeaves memory script t ended
-    → ¬ (ended ≡ Read) → ¬ (ended ≡ Write) → ¬ (ended ≡ Memory) → ¬ (ended ≡ Cut) → NoneRefused (on_memory c) o (lines_of script) → ended ≡ Done
-complete_from memory c o side script t ended is leaves no_read no_write no_memory no_cut none =
-    completes (on_memory c) o script t ended (subst (λ m. RunLeaves m script t ended) is leaves).ran no_read no_write no_memory no_cut none
+    → ¬ (ended ≡ Read) → ¬ (ended ≡ Write) → ¬ (ended ≡ Memory) → IsDoneOrRefused ended
+complete_from memory c o side script t ended is leaves no_read no_write no_memory =
+    let ran = (subst (λ m. RunLeaves m script t ended) is leaves).ran in
+    completes ended no_read no_write no_memory (λ byte e. subst (EndsAt (on_memory c) o (lines_of script) (output_lines t) (open_segment t) ran.journal) e ran.ends) (λ at e. subst (EndsAt (on_memory c) o (lines_of script) (output_lines t) (open_segment t) ran.journal) e ran.ends)

@@ -8,7 +8,7 @@ use Rattle.journal_model.specs.Faults.{Dry}
 use Rattle.pairing_model.specs.Settings.{settings_for}
 use Rattle.pairing_model.specs.Setup.{Setup}
 use Rattle.run_engine.specs.declared.Ended.{Ended}
-use Rattle.run_engine.specs.declared.Ended.TheVariants.{Done, Line, Memory, Read, Write, Unformatted, Foreign, Cut}
+use Rattle.run_engine.specs.declared.Ended.TheVariants.{Done, Line, Memory, Read, Write, Unformatted, Foreign}
 
 -- The serial number 12345678, the maker ABC, version 1, address 1. The flow sensor sits in the return, in water of 1600
 -- kPa, and the temperature sensors have 500 ohms at 0 °C. A pulse stands for 10 litres. Energy is shown without decimals,
@@ -46,6 +46,5 @@ EndsWithoutMemory (Line n kind) = Unit {0}
 EndsWithoutMemory Read = Unit {0}
 EndsWithoutMemory Write = Unit {0}
 EndsWithoutMemory Memory = ⊥
-EndsWithoutMemory Cut = ⊥
 EndsWithoutMemory (Unformatted byte) = ⊥
 EndsWithoutMemory (Foreign at) = ⊥

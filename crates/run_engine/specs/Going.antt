@@ -13,6 +13,7 @@ use Rattle.pairing_model.specs.Setup.{Setup, on_memory, settings_in}
 use Rattle.pairing_model.specs.Journal.{Journal, at_start}
 use Rattle.pairing_model.specs.Pairing.{Pairs}
 use Rattle.billing_memory.specs.Records.{record_view}
+use Rattle.meter_config.specs.Views.{config_view}
 use Rattle.optical_readout.specs.Heard.{Heard}
 use Rattle.mbus_records.specs.State.{IsAfter}
 use Rattle.register_store.specs.Commits as commits
@@ -40,8 +41,9 @@ pub record Between (c : Configuration) (o : MeterRecord) (script rest : List ℕ
   pub holds : commits.StandsFor (Holds c r side) reads
   pub sound : (p : Trace) → IsPrefix p t → IsSound c o (lines_of script) p
 
--- the record in force is the station's, and its readouts have heard what the journal tells
+-- the record in force and the configuration are the station's, and its readouts have heard what the journal tells
 pub record IsReady (c : Configuration) (o : MeterRecord) (script rest : List ℕ) (n : ℕ) (station : Station) (reads : List ℕ) (t : Trace) : Type 0 where
+  pub config : c ≡ config_view station.meter.config
   pub journal : Journal
   pub between : Between c o script rest n journal (record_view station.meter.record) (side_view station.side) reads t
   pub head : Heard c journal.last_message station.optical

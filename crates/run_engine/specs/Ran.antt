@@ -1,22 +1,22 @@
 -- What the lines of a script leave, where the source tells its bytes and the board its trace.
-use Rattle.std.specs.Prelude.{◌≡◌, ℕ, ◌+◌, ◌⊎◌, true, List, [], ◌∷◌, ◌++◌, length, take, Some, IsTrue, slice_get}
-use Rattle.std.specs.List.{list_all}
-use Rattle.metering_model.specs.Events.{Event, Kept}
+use Rattle.std.specs.Prelude.{◌≡◌, ℕ, ◌+◌, ◌⊎◌, true, List, [], ◌∷◌, ◌++◌, length, take, None, Some, Ok, slice_get}
+use Rattle.metering_model.specs.Events.{Kept}
 use Rattle.metering_model.specs.Records.{MeterRecord, record_after}
 use Rattle.metering_model.specs.Integral.{AllFitClosely}
 use Rattle.script_model.specs.Lines.{after_lines, lines_of}
-use Rattle.script_model.specs.Grammar.{Metering}
-use Rattle.trace_model.specs.Trace.{Entry, Put, Cut, Trace}
+use Rattle.script_model.specs.Grammar as grammar
+use Rattle.script_model.specs.Grammar.{Metering, Power, Opt, Mbus, line_of}
+use Rattle.trace_model.specs.Trace.{Entry, Put, Trace}
 use Rattle.trace_model.specs.Output.{OutputLine, output_lines, open_segment}
 use Rattle.trace_model.specs.Moments.{IsPrefix}
 use Rattle.journal_model.specs.Faults.{Fault, fault_of, is_open}
 use Rattle.pairing_model.specs.Setup.{Setup, settings_in}
 use Rattle.pairing_model.specs.Journal.{Journal, at_start}
-use Rattle.pairing_model.specs.Pairing.{Answers, Pairs, may_stand}
-use Rattle.recovery_model.specs.Right.{NextIsEvent}
+use Rattle.pairing_model.specs.Pairing.{Answers, IsCutWork, IsPowerFailure, IsWork, Pairs}
+use Rattle.event_script.specs.declared.LineFault.{LineFault}
 use Rattle.event_script.specs.Views.{fault_view}
 use Rattle.run_engine.specs.declared.Ended.{Ended}
-use Rattle.run_engine.specs.declared.Ended.TheVariants.{Done, Line, Memory, Read, Write, Unformatted, Foreign, Cut as WasCut}
+use Rattle.run_engine.specs.declared.Ended.TheVariants.{Done, Line, Memory, Read, Write, Unformatted, Foreign}
 
 -- the line after the n first is refused for this reason, which the record in force decides
 pub record IsRefused (s : Setup) (o : MeterRecord) (lines : List (List ℕ)) (kept : List Kept) (n : ℕ) (fault : Fault) : Type 0 where
@@ -24,18 +24,24 @@ pub record IsRefused (s : Setup) (o : MeterRecord) (lines : List (List ℕ)) (ke
   pub place : slice_get lines n ≡ Some line
   pub why : fault_of s.command (record_after (settings_in s) o kept) n line ≡ Some fault
 
--- the line after the n first is an event, for which this happened
-pub record StopsInEvent (s : Setup) (o : MeterRecord) (lines : List (List ℕ)) (kept : List Kept) (n : ℕ) (rest : List Entry) : Type 0 where
-  pub event : Event
-  pub next : NextIsEvent s o lines kept n event
-  pub allowed : IsTrue (list_all (may_stand (Metering event)) rest)
+-- what happened for a line where the memory failed: for an event it worked, and maybe the power failed, after which the
+-- record could not be recovered; so it is for a power failure of its own; to order a cut failed at once; for a readout the
+-- memory is not asked
+abbrev pub FailsIn : grammar.Line → List Entry → Type 0
+FailsIn (Metering event) rest = IsWork rest ⊎ IsCutWork rest
+FailsIn Power rest = (rest ≡ []) ⊎ IsPowerFailure rest
+FailsIn (grammar.Cut n keep fill) rest = rest ≡ []
+FailsIn (Opt message) rest = ⊥
+FailsIn (Mbus bytes) rest = ⊥
 
--- and then the power was cut
-pub record StopsAtCut (s : Setup) (o : MeterRecord) (lines : List (List ℕ)) (kept : List Kept) (n : ℕ) (rest : List Entry) : Type 0 where
-  pub before : List Entry
-  pub image : List ℕ
-  pub is : rest ≡ before ++ Cut true image ∷ []
-  pub stops : StopsInEvent s o lines kept n before
+-- the memory failed for the line after the n first, which is not refused
+pub record StopsInLine (s : Setup) (o : MeterRecord) (lines : List (List ℕ)) (kept : List Kept) (n : ℕ) (rest : List Entry) : Type 0 where
+  pub line : List ℕ
+  pub place : slice_get lines n ≡ Some line
+  pub taken : fault_of s.command (record_after (settings_in s) o kept) n line ≡ None
+  pub said : grammar.Line
+  pub says : line_of line ≡ Ok said
+  pub fails : FailsIn said rest
 
 -- all happened for the line after the n first but its answer, of which nothing went out, or a front
 pub record StopsInAnswer (s : Setup) (o : MeterRecord) (lines : List (List ℕ)) (journal : Journal) (n : ℕ) (rest : List Entry) : Type 0 where
@@ -48,13 +54,12 @@ pub record StopsInAnswer (s : Setup) (o : MeterRecord) (lines : List (List ℕ))
   pub went : (rest ≡ segment) ⊎ ((count : ℕ) × (rest ≡ segment ++ Put (take count text) ∷ []))
 
 -- Done: each line has its output line. Line: the next line is refused, and nothing happened for it. Memory: it failed at
--- first, or for the event of the next line. Cut: so did the power. Write: the last answer went out, or the next one failed.
--- Read: nothing happened since. The memory is never found unformatted or foreign.
+-- first, or for the next line. Write: the last answer went out, or the next one failed. Read: nothing happened since. The
+-- memory is never found unformatted or foreign, not after a power failure either.
 abbrev pub EndsAt : Setup → MeterRecord → List (List ℕ) → List OutputLine → List Entry → Journal → Ended → Type 0
 EndsAt s o lines outputs rest j Done = (length outputs ≡ length lines) × (rest ≡ [])
 EndsAt s o lines outputs rest j (Line n kind) = (n ≡ length outputs + 1) × IsRefused s o lines j.kept (length outputs) (fault_view kind) × (rest ≡ [])
-EndsAt s o lines outputs rest j Memory = ((outputs ≡ []) × (rest ≡ [])) ⊎ StopsInEvent s o lines j.kept (length outputs) rest
-EndsAt s o lines outputs rest j WasCut = StopsAtCut s o lines j.kept (length outputs) rest
+EndsAt s o lines outputs rest j Memory = ((outputs ≡ []) × (rest ≡ [])) ⊎ StopsInLine s o lines j.kept (length outputs) rest
 EndsAt s o lines outputs rest j Write = (rest ≡ []) ⊎ StopsInAnswer s o lines j (length outputs) rest
 EndsAt s o lines outputs rest j Read = rest ≡ []
 EndsAt s o lines outputs rest j (Unformatted byte) = ⊥
@@ -75,16 +80,9 @@ pub record Ran (s : Setup) (o : MeterRecord) (script : List ℕ) (trace : Trace)
   pub ends : EndsAt s o (lines_of script) (output_lines trace) (open_segment trace) journal ended
   pub moments : (p : Trace) → IsPrefix p trace → Metered s o script p
 
--- an answer of a run that has its record
-abbrev pub AnswersLines : Ended → Type 0
-AnswersLines Done = Unit {0}
-AnswersLines (Line n kind) = Unit {0}
-AnswersLines Memory = Unit {0}
-AnswersLines WasCut = Unit {0}
-AnswersLines Write = Unit {0}
-AnswersLines Read = Unit {0}
-AnswersLines (Unformatted byte) = ⊥
-AnswersLines (Foreign at) = ⊥
+-- each line was answered, or one was refused
+abbrev pub IsDoneOrRefused : Ended → Type 0
+IsDoneOrRefused ended = (ended ≡ Done) ⊎ ((n : ℕ) × (kind : LineFault) × (ended ≡ Line n kind))
 
 -- Where a read failed: behind the lines that were answered stands what of the next one was delivered, which leaves it open
 -- what that line says and why it is refused, and then what the source has left.

@@ -13,7 +13,7 @@ use Rattle.pairing_model.specs.Setup.{on_memory}
 use Rattle.recovery_model.specs.Right.{HeldBefore, HoldsKept, IsRight}
 use Rattle.register_store.specs.Works.{is_store, is_sync}
 use Rattle.run_engine.specs.declared.Ended.{Ended}
-use Rattle.run_engine.specs.declared.Ended.TheVariants.{Done, Line, Memory, Read, Write, Unformatted, Foreign, Cut}
+use Rattle.run_engine.specs.declared.Ended.TheVariants.{Done, Line, Memory, Read, Write, Unformatted, Foreign}
 use Rattle.run_engine.specs.Ran.{Ran}
 
 -- since the last output line there were at most two stores, and at most two syncs, missed ones counted
@@ -33,7 +33,6 @@ abbrev pub EndsHeld : Configuration → MeterRecord → List (List ℕ) → Trac
 EndsHeld c o lines trace Done = Leaves (HoldsKept c o lines trace) trace
 EndsHeld c o lines trace (Line n kind) = Leaves (HoldsKept c o lines trace) trace
 EndsHeld c o lines trace Memory = Unit {0}
-EndsHeld c o lines trace Cut = Unit {0}
 EndsHeld c o lines trace Write = Unit {0}
 EndsHeld c o lines trace Read = Leaves (HoldsKept c o lines trace) trace
 EndsHeld c o lines trace (Unformatted byte) = ⊥

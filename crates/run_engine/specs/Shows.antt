@@ -12,14 +12,13 @@ use Rattle.meter_board.specs.Puts.{PutsFront}
 use Rattle.mbus_records.specs.State.{IsAfter}
 use Rattle.mbus_records.specs.declared.slave.Slave.{Slave}
 use Rattle.run_engine.specs.declared.Ended.{Ended}
-use Rattle.run_engine.specs.declared.Ended.TheVariants.{Done, Line, Memory, Read, Write, Unformatted, Foreign, Cut}
+use Rattle.run_engine.specs.declared.Ended.TheVariants.{Done, Line, Memory, Read, Write, Unformatted, Foreign}
 
 -- the text went out; where the output failed, a front of it, or nothing
 abbrev pub ShowGives : {T : Type 0} → Trace → List ℕ → Result T Ended → Trace → Type 0
 ShowGives t text (Ok u) t' = t' ≡ t ▷ Put text
 ShowGives t text (Err Write) t' = PutsFront t text t'
 ShowGives t text (Err Memory) t' = ⊥
-ShowGives t text (Err Cut) t' = ⊥
 ShowGives t text (Err Done) t' = ⊥
 ShowGives t text (Err (Line n kind)) t' = ⊥
 ShowGives t text (Err Read) t' = ⊥

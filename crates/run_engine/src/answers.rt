@@ -6,49 +6,53 @@ ghost use Rattle.trace_model.specs.Images.{NothingPending};
 ghost use Rattle.config_model.specs.Configuration.{Configuration};
 ghost use Rattle.metering_model.specs.Records as metering;
 ghost use Rattle.memory_model.specs.Stored.{Holds};
-ghost use Rattle.journal_model.specs.Texts.{ok_text};
+ghost use Rattle.journal_model.specs.Texts.{ok_text, power_text};
 ghost use Rattle.slave_model.specs.Heard as slaves;
 ghost use Rattle.billing_memory.specs.Records.{record_view};
 ghost use Rattle.meter_config.specs.Views.{config_view, settings_of};
 ghost use Rattle.meter_board.specs.Causes.{Rose};
+ghost use Rattle.meter_board.specs.declared.refusal.Refusal.TheVariants as refusals;
 ghost use Rattle.optical_readout.specs.Heard.{Heard};
 ghost use Rattle.mbus_records.specs.State.{IsAfter};
 ghost use Rattle.register_store.specs.Commits.{StandsFor, StandsOn};
 ghost use Rattle.register_store.specs.Recovered.{side_view};
 ghost use Rattle.run_engine.specs.Shows.{RepliesOnBus, ShowGives, ShowsOnBus, ShowsReply};
-ghost use Rattle.run_engine.specs.Steps.{HoldGives};
+ghost use Rattle.run_engine.specs.Steps.{CountsCuts, HoldGives, OrderGives};
 
 use crate::Ended;
-use crate::text::{ok_line, readout_line};
+use crate::text::{ok_line, power_line, readout_line};
 use arrayvec::ArrayVec;
 use mbus_link::{parse, write};
 use mbus_records::Slave;
-use meter_board::{Board, Failed};
+use meter_board::{Board, Failed, Refusal};
 use meter_core::Meter;
 use optical_readout::Optical;
 use register_store::{Side, StoreFault, commit};
 
 /// Lets the memory hold the meter's record in the place of the one that it holds on this side. Answers the side that
 /// holds it.
-pub(crate) fn hold<B: Board>(meter: &Meter, side: Side, board: &mut B) -> Result<Side, Ended>
+///
+/// # Errors
+/// [`Refusal::Failed`] where the memory failed, [`Refusal::Cut`] where the power failed. Then it holds either record.
+pub(crate) fn hold<B: Board>(meter: &Meter, side: Side, board: &mut B) -> Result<Side, Refusal>
     requires settled { B.tells → NothingPending (B.trace board.old) }
     requires stands { B.tells → StandsOn (side_view side) (B.reads board.old) }
     ensures holds { B.tells → (c : Configuration) (r : metering.MeterRecord) → StandsFor (Holds c r (side_view side)) (B.reads board.old)
         → HoldGives c (side_view side) r (record_view meter.now.record) (B.trace board.old) result (B.trace board.new) (B.reads board.new) }
     ensures settled { B.tells → OnOk result (NothingPending (B.trace board.new)) }
+    ensures cut_settled { B.tells → IsErrOf result refusals.Cut → NothingPending (B.trace board.new) }
     ensures stands { B.tells → IfOk result (λ turned. StandsOn (side_view turned) (B.reads board.new)) }
     ensures base { B.tells → base_of (B.trace board.new) ≡ base_of (B.trace board.old) }
-    ensures memory { IsErrOf result Ended.Memory → Rose (B.memory_faults board.old) (B.memory_faults board.new) }
-    ensures cut { IsErrOf result Ended.Cut → Rose (B.cuts board.old) (B.cuts board.new) }
-    ensures only { IfErr result (λ e. (e ≡ Ended.Memory) ⊎ (e ≡ Ended.Cut)) }
+    ensures memory { IsErrOf result refusals.Failed → Rose (B.memory_faults board.old) (B.memory_faults board.new) }
+    ensures counted { B.tells → CountsCuts (B.trace board.old) (B.trace board.new) (B.cuts board.old) (B.cuts board.new) }
     ensures memory_faults { B.memory_faults board.old ≤ B.memory_faults board.new }
     ensures output_faults { B.output_faults board.old ≤ B.output_faults board.new }
     ensures cuts { B.cuts board.old ≤ B.cuts board.new }
 {
     match commit(board, side, meter.state()) {
         Ok(turned) => Ok(turned),
-        Err(StoreFault::Cut) => Err(Ended::Cut),
-        Err(_) => Err(Ended::Memory),
+        Err(StoreFault::Cut) => Err(Refusal::Cut),
+        Err(_) => Err(Refusal::Failed),
     }
 }
 
@@ -58,6 +62,7 @@ pub(crate) fn acknowledge<B: Board>(meter: &Meter, board: &mut B) -> Result<(), 
     ensures base { B.tells → base_of (B.trace board.new) ≡ base_of (B.trace board.old) }
     ensures settled { B.tells → NothingPending (B.trace board.old) → OnOk result (NothingPending (B.trace board.new)) }
     ensures reads { B.tells → B.reads board.new ≡ B.reads board.old }
+    ensures counted { B.tells → CountsCuts (B.trace board.old) (B.trace board.new) (B.cuts board.old) (B.cuts board.new) }
     ensures only { IfErr result (λ e. e ≡ Ended.Write) }
     ensures write { IsErrOf result Ended.Write → Rose (B.output_faults board.old) (B.output_faults board.new) }
     ensures memory_faults { B.memory_faults board.old ≤ B.memory_faults board.new }
@@ -66,6 +71,45 @@ pub(crate) fn acknowledge<B: Board>(meter: &Meter, board: &mut B) -> Result<(), 
 {
     let text = ok_line(meter.state(), meter.config().per_pulse);
     show(text.as_str().as_bytes(), board)
+}
+
+/// Tells the meter's record, which was recovered after a power failure.
+pub(crate) fn tell_recovered<B: Board>(meter: &Meter, board: &mut B) -> Result<(), Ended>
+    ensures shows { B.tells → ShowGives (B.trace board.old) (power_text (settings_of meter.now.config) (record_view meter.now.record)) result (B.trace board.new) }
+    ensures base { B.tells → base_of (B.trace board.new) ≡ base_of (B.trace board.old) }
+    ensures settled { B.tells → NothingPending (B.trace board.old) → OnOk result (NothingPending (B.trace board.new)) }
+    ensures reads { B.tells → B.reads board.new ≡ B.reads board.old }
+    ensures counted { B.tells → CountsCuts (B.trace board.old) (B.trace board.new) (B.cuts board.old) (B.cuts board.new) }
+    ensures only { IfErr result (λ e. e ≡ Ended.Write) }
+    ensures write { IsErrOf result Ended.Write → Rose (B.output_faults board.old) (B.output_faults board.new) }
+    ensures memory_faults { B.memory_faults board.old ≤ B.memory_faults board.new }
+    ensures output_faults { B.output_faults board.old ≤ B.output_faults board.new }
+    ensures cuts { B.cuts board.old ≤ B.cuts board.new }
+{
+    let text = power_line(meter.state(), meter.config().per_pulse);
+    show(text.as_str().as_bytes(), board)
+}
+
+/// Orders a cut of the power: within the `n`-th store or sync from now on, of which the first `keep` bytes are written
+/// and `fill` in the place of the others.
+pub(crate) fn order_cut<B: Board>(n: u16, keep: u16, fill: u8, board: &mut B) -> Result<(), Ended>
+    requires { 1 ≤ n }
+    ensures gives { B.tells → OrderGives n keep fill (B.trace board.old) result (B.trace board.new) }
+    ensures base { B.tells → base_of (B.trace board.new) ≡ base_of (B.trace board.old) }
+    ensures settled { B.tells → NothingPending (B.trace board.old) → OnOk result (NothingPending (B.trace board.new)) }
+    ensures reads { B.tells → B.reads board.new ≡ B.reads board.old }
+    ensures counted { B.tells → CountsCuts (B.trace board.old) (B.trace board.new) (B.cuts board.old) (B.cuts board.new) }
+    ensures only { IfErr result (λ e. (e ≡ Ended.Memory) ⊎ (e ≡ Ended.Write)) }
+    ensures memory { IsErrOf result Ended.Memory → Rose (B.memory_faults board.old) (B.memory_faults board.new) }
+    ensures write { IsErrOf result Ended.Write → Rose (B.output_faults board.old) (B.output_faults board.new) }
+    ensures memory_faults { B.memory_faults board.old ≤ B.memory_faults board.new }
+    ensures output_faults { B.output_faults board.old ≤ B.output_faults board.new }
+    ensures cuts { B.cuts board.old ≤ B.cuts board.new }
+{
+    match board.arm(n, keep, fill) {
+        Ok(()) => show(b"armed\n".as_slice(), board),
+        Err(Failed) => Err(Ended::Memory),
+    }
 }
 
 /// Hears a message at the optical head, and shows the reply.
@@ -81,6 +125,7 @@ pub(crate) fn answer_message<B: Board>(
     ensures base { B.tells → base_of (B.trace board.new) ≡ base_of (B.trace board.old) }
     ensures settled { B.tells → NothingPending (B.trace board.old) → OnOk result (NothingPending (B.trace board.new)) }
     ensures reads { B.tells → B.reads board.new ≡ B.reads board.old }
+    ensures counted { B.tells → CountsCuts (B.trace board.old) (B.trace board.new) (B.cuts board.old) (B.cuts board.new) }
     ensures only { IfErr result (λ e. e ≡ Ended.Write) }
     ensures write { IsErrOf result Ended.Write → Rose (B.output_faults board.old) (B.output_faults board.new) }
     ensures memory_faults { B.memory_faults board.old ≤ B.memory_faults board.new }
@@ -104,6 +149,7 @@ pub(crate) fn answer_bytes<B: Board>(
     ensures base { B.tells → base_of (B.trace board.new) ≡ base_of (B.trace board.old) }
     ensures settled { B.tells → NothingPending (B.trace board.old) → OnOk result (NothingPending (B.trace board.new)) }
     ensures reads { B.tells → B.reads board.new ≡ B.reads board.old }
+    ensures counted { B.tells → CountsCuts (B.trace board.old) (B.trace board.new) (B.cuts board.old) (B.cuts board.new) }
     ensures only { IfErr result (λ e. e ≡ Ended.Write) }
     ensures write { IsErrOf result Ended.Write → Rose (B.output_faults board.old) (B.output_faults board.new) }
     ensures memory_faults { B.memory_faults board.old ≤ B.memory_faults board.new }
@@ -140,6 +186,7 @@ fn show<B: Board>(text: &[u8], board: &mut B) -> Result<(), Ended>
     ensures gives { B.tells → ShowGives (B.trace board.old) text.now result (B.trace board.new) }
     ensures settled { B.tells → NothingPending (B.trace board.old) → OnOk result (NothingPending (B.trace board.new)) }
     ensures reads { B.tells → B.reads board.new ≡ B.reads board.old }
+    ensures counted { B.tells → CountsCuts (B.trace board.old) (B.trace board.new) (B.cuts board.old) (B.cuts board.new) }
     ensures only { IfErr result (λ e. e ≡ Ended.Write) }
     ensures write { IsErrOf result Ended.Write → Rose (B.output_faults board.old) (B.output_faults board.new) }
     ensures memory_faults { B.memory_faults board.old ≤ B.memory_faults board.new }

@@ -10,7 +10,10 @@ mod text;
 mod without_memory;
 
 use event_script::LineFault;
-pub use laws::{held_energy_is_bounded, histories_join};
+pub use laws::{
+    fitting_events_are_near, held_energy_is_bounded, histories_join, lines_decide_the_journal,
+    temperatures_exist,
+};
 pub use on_memory::run;
 pub use without_memory::dry;
 
@@ -31,6 +34,4 @@ pub enum Ended {
     Unformatted { byte: u8 },
     /// The field at this offset in the memory breaks its rule.
     Foreign { at: u32 },
-    /// The power failed, and the board's count of cuts rose.
-    Cut,
 }

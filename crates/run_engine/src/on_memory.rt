@@ -1,5 +1,5 @@
 //! The command `run`.
-ghost use Rattle.std.specs.Prelude.{◌≡◌, ◌≢◌, ℕ, List, Err, [], length};
+ghost use Rattle.std.specs.Prelude.{◌≡◌, ◌+◌, ◌-◌, ◌^◌, ◌≤◌, ℕ, [], length, min};
 ghost use Rattle.trace_model.specs.Trace.{IsFresh, base_of};
 ghost use Rattle.trace_model.specs.Output.{output_lines};
 ghost use Rattle.script_model.specs.Lines.{lines_of};
@@ -8,63 +8,51 @@ ghost use Rattle.metering_model.specs.Records as metering;
 ghost use Rattle.memory_model.specs.Stored as model;
 ghost use Rattle.memory_model.specs.Stored.{Holds, stored};
 ghost use Rattle.pairing_model.specs.Setup.{on_memory};
-ghost use Rattle.pairing_model.specs.Pairing.{NoneRefused};
+ghost use Rattle.pairing_model.specs.Journal.{Journal, at_start};
+ghost use Rattle.pairing_model.specs.Pairing.{Pairs};
 ghost use Rattle.billing_memory.specs.Records.{record_view};
 ghost use Rattle.meter_config.specs.Views.{config_view};
 ghost use Rattle.meter_board.specs.Causes.{Rose};
 ghost use Rattle.register_store.specs.Commits.{StandsFor};
-ghost use Rattle.register_store.specs.Recovered.{RecoverGives, side_view};
-ghost use Rattle.run_engine.specs.Ran.{AnswersLines, StopsAtRead};
+ghost use Rattle.register_store.specs.Recovered.{side_view};
+ghost use Rattle.run_engine.specs.Ran.{IsDoneOrRefused, StopsAtRead};
 ghost use Rattle.run_engine.specs.Run.{RanOnMemory, RunLeaves};
-ghost use Rattle.run_engine.specs.Steps.{IsUnreadable, Unreadable};
+ghost use Rattle.run_engine.specs.Steps.{CountsCuts};
 
 use crate::Ended;
 use crate::lines::next_line;
-use crate::station::Station;
+use crate::station::{Station, unreadable};
 use event_script::Lines;
 use meter_board::{Board, Source};
 use meter_core::Meter;
-use register_store::{Side, StoreFault, recover};
+use register_store::{Side, recover};
 
 /// Meters the events of a script over the memory of the board. Each event is taken by the record, then held by the
 /// memory, whatever the power does from then on, and then answered by an output line. A readout is answered from
-/// the record in force and what was heard since the start. The script is read after the memory was recovered.
+/// the record in force and what was heard since the start. Where the power fails, the record is recovered, which is
+/// a start too, and told by a `power` line. The script is read after the memory was recovered.
 pub fn run<S: Source, B: Board>(source: &mut S, board: &mut B) -> Ended
     requires { B.tells → IsFresh (B.trace board.old) }
     ensures leaves { S.tells → B.tells → RunLeaves (stored (base_of (B.trace board.old))) (S.left source.old) (B.trace board.new) result }
-    ensures complete { S.tells → B.tells → (c : Configuration) (o : metering.MeterRecord) (side : model.Side) → stored (base_of (B.trace board.old)) ≡ Holds c o side → NoneRefused (on_memory c) o (lines_of (S.left source.old))
-        → ¬ Rose (S.faults source.old) (S.faults source.new) → ¬ Rose (B.memory_faults board.old) (B.memory_faults board.new) → ¬ Rose (B.output_faults board.old) (B.output_faults board.new) → ¬ Rose (B.cuts board.old) (B.cuts board.new)
-        → result ≡ Ended.Done }
+    ensures complete { S.tells → B.tells → (c : Configuration) (o : metering.MeterRecord) (side : model.Side) → stored (base_of (B.trace board.old)) ≡ Holds c o side
+        → ¬ Rose (S.faults source.old) (S.faults source.new) → ¬ Rose (B.memory_faults board.old) (B.memory_faults board.new) → ¬ Rose (B.output_faults board.old) (B.output_faults board.new)
+        → IsDoneOrRefused result }
+    ensures few_lost { S.tells → B.tells → (c : Configuration) (o : metering.MeterRecord) (side : model.Side) (j : Journal) → stored (base_of (B.trace board.old)) ≡ Holds c o side
+        → Pairs (on_memory c) o 0 at_start (lines_of (S.left source.old)) (output_lines (B.trace board.new)) j → min (B.cuts board.old + j.interrupted) (2 ^ 64 - 1) ≤ B.cuts board.new }
     ensures base { B.tells → base_of (B.trace board.new) ≡ base_of (B.trace board.old) }
     ensures end { S.tells → B.tells → result ≡ Ended.Done → S.left source.new ≡ [] }
     ensures delivered { S.tells → B.tells → result ≡ Ended.Read → StopsAtRead (S.left source.old) (S.left source.new) (length (output_lines (B.trace board.new))) }
-    ensures unformatted_unread { (byte : ℕ) → result ≡ Ended.Unformatted byte → source.new ≡ source.old }
-    ensures foreign_unread { (at : ℕ) → result ≡ Ended.Foreign at → source.new ≡ source.old }
+    ensures unformatted_unread { S.tells → B.tells → (byte : ℕ) → result ≡ Ended.Unformatted byte → source.new ≡ source.old }
+    ensures foreign_unread { S.tells → B.tells → (at : ℕ) → result ≡ Ended.Foreign at → source.new ≡ source.old }
     ensures memory { result ≡ Ended.Memory → Rose (B.memory_faults board.old) (B.memory_faults board.new) }
     ensures read { result ≡ Ended.Read → Rose (S.faults source.old) (S.faults source.new) }
     ensures write { result ≡ Ended.Write → Rose (B.output_faults board.old) (B.output_faults board.new) }
-    ensures cut { result ≡ Ended.Cut → Rose (B.cuts board.old) (B.cuts board.new) }
 {
     match recover(board) {
         Ok((config, opening, side)) => {
             answer_lines(source, Meter::start(config, opening), side, board)
         }
         Err(fault) => unreadable(fault),
-    }
-}
-
-/// How a run ends whose memory can't be recovered.
-fn unreadable(fault: StoreFault) -> Ended
-    requires formatted { fault ≢ StoreFault.Formatted }
-    requires cut { fault ≢ StoreFault.Cut }
-    ensures gives { (memory : List ℕ) → RecoverGives (Err fault) memory → Unreadable (stored memory) result }
-    ensures kind { IsUnreadable result }
-    ensures memory { result ≡ Ended.Memory → fault ≡ StoreFault.Memory }
-{
-    match fault {
-        StoreFault::Unformatted { byte } => Ended::Unformatted { byte },
-        StoreFault::Foreign { at } => Ended::Foreign { at },
-        StoreFault::Memory | StoreFault::Formatted | StoreFault::Cut => Ended::Memory,
     }
 }
 
@@ -81,11 +69,10 @@ fn answer_lines<S: Source, B: Board>(
     ensures ran { S.tells → B.tells → RanOnMemory (config_view meter.config) (record_view meter.record) (S.left source.old) (B.trace board.new) result }
     ensures end { S.tells → B.tells → result ≡ Ended.Done → S.left source.new ≡ [] }
     ensures delivered { S.tells → B.tells → result ≡ Ended.Read → StopsAtRead (S.left source.old) (S.left source.new) (length (output_lines (B.trace board.new))) }
-    ensures kind { AnswersLines result }
+    ensures counted { B.tells → CountsCuts (B.trace board.old) (B.trace board.new) (B.cuts board.old) (B.cuts board.new) }
     ensures memory { result ≡ Ended.Memory → Rose (B.memory_faults board.old) (B.memory_faults board.new) }
     ensures read { result ≡ Ended.Read → Rose (S.faults source.old) (S.faults source.new) }
     ensures write { result ≡ Ended.Write → Rose (B.output_faults board.old) (B.output_faults board.new) }
-    ensures cut { result ≡ Ended.Cut → Rose (B.cuts board.old) (B.cuts board.new) }
 {
     let mut station = Station::start(meter, side);
     let mut lines = Lines::new();

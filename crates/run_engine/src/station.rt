@@ -1,27 +1,29 @@
 //! A meter over a memory, with its readouts.
-ghost use Rattle.std.specs.Prelude.{◌≡◌, ◌+◌, ◌≤◌, ◌<◌, ℕ, List, [], None, IfErr, IsErrOf, OnOk};
+ghost use Rattle.std.specs.Prelude.{◌≡◌, ◌≢◌, ◌+◌, ◌≤◌, ◌<◌, ℕ, List, [], None, Err, IfErr, IsErrOf, OnOk};
 ghost use Rattle.trace_model.specs.Trace.{base_of};
 ghost use Rattle.trace_model.specs.Images.{NothingPending};
 ghost use Rattle.config_model.specs.Configuration.{Configuration};
 ghost use Rattle.metering_model.specs.Records as metering;
+ghost use Rattle.memory_model.specs.Stored.{stored};
+ghost use Rattle.script_model.specs.Grammar as grammar;
 ghost use Rattle.event_script.specs.Next.{IsFirst, SaysAt};
-ghost use Rattle.event_script.specs.Views.{IsInRange, line_view};
-ghost use Rattle.meter_config.specs.Views.{config_view};
+ghost use Rattle.event_script.specs.Views.{IsEvent, IsInRange, event_view, line_view};
 ghost use Rattle.meter_board.specs.Causes.{Rose};
 ghost use Rattle.optical_readout.specs.Heard.{Heard};
 ghost use Rattle.mbus_records.specs.State.{IsAfter};
 ghost use Rattle.register_store.specs.Commits.{StandsOn};
-ghost use Rattle.register_store.specs.Recovered.{side_view};
+ghost use Rattle.register_store.specs.Recovered.{RecoverGives, side_view};
+ghost use Rattle.run_engine.specs.Steps.{IsUnreadable, Unreadable};
 
 use crate::Ended;
-use crate::answers::{acknowledge, answer_bytes, answer_message, hold};
+use crate::answers::{acknowledge, answer_bytes, answer_message, hold, order_cut, tell_recovered};
 use crate::lines::take_event;
-use event_script::Line;
+use event_script::{Event, Line};
 use mbus_records::Slave;
-use meter_board::Board;
+use meter_board::{Board, Failed, Refusal};
 use meter_core::Meter;
 use optical_readout::Optical;
-use register_store::Side;
+use register_store::{Side, StoreFault, recover};
 
 /// A meter whose record the memory holds, its optical head, and it as a slave on the bus.
 #[derive(Debug, Drop)]
@@ -36,6 +38,7 @@ pub(crate) struct Station {
 impl Station {
     ghost use Rattle.run_engine.specs.Going.{IsReady, Leads};
     ghost use Rattle.run_engine.specs.Reads.{EndsAnswering};
+    ghost use Rattle.run_engine.specs.Steps.{CountsCuts, RestartGives};
 
     /// A meter that has been read out by nobody since the start.
     pub(crate) fn start(meter: Meter, side: Side) -> Station
@@ -63,30 +66,24 @@ impl Station {
         requires few { taken < 1000000 }
         requires settled { B.tells → NothingPending (B.trace board.old) }
         requires stands { B.tells → StandsOn (side_view self.old.side) (B.reads board.old) }
-        ensures leads { B.tells → (c : Configuration) (o : metering.MeterRecord) (script rest line after : List ℕ) → c ≡ config_view self.old.meter.config
+        ensures leads { B.tells → (c : Configuration) (o : metering.MeterRecord) (script rest line after : List ℕ)
             → IsReady c o script rest taken self.old (B.reads board.old) (B.trace board.old) → IsFirst rest line after → SaysAt taken line (line_view said.now)
             → Leads c o script after (taken + 1) self.new (B.reads board.new) (B.trace board.new) result }
         ensures settled { B.tells → OnOk result (NothingPending (B.trace board.new)) }
         ensures stands { B.tells → OnOk result (StandsOn (side_view self.new.side) (B.reads board.new)) }
-        ensures config { self.new.meter.config ≡ self.old.meter.config }
         ensures base { B.tells → base_of (B.trace board.new) ≡ base_of (B.trace board.old) }
+        ensures counted { B.tells → CountsCuts (B.trace board.old) (B.trace board.new) (B.cuts board.old) (B.cuts board.new) }
         ensures memory { IsErrOf result Ended.Memory → Rose (B.memory_faults board.old) (B.memory_faults board.new) }
         ensures write { IsErrOf result Ended.Write → Rose (B.output_faults board.old) (B.output_faults board.new) }
-        ensures cut { IsErrOf result Ended.Cut → Rose (B.cuts board.old) (B.cuts board.new) }
         ensures kind { IfErr result EndsAnswering }
         ensures memory_faults { B.memory_faults board.old ≤ B.memory_faults board.new }
         ensures output_faults { B.output_faults board.old ≤ B.output_faults board.new }
         ensures cuts { B.cuts board.old ≤ B.cuts board.new }
     {
         match said {
-            Line::Metering(event) => {
-                match take_event(event, &mut self.meter) {
-                    Ok(()) => {}
-                    Err(kind) => return Err(Ended::Line { n: taken + 1, kind }),
-                }
-                self.side = hold(&self.meter, self.side, board)?;
-                acknowledge(&self.meter, board)
-            }
+            Line::Metering(event) => self.answer_event(event, taken, board),
+            Line::Power => self.answer_power(board),
+            Line::Cut { n, keep, fill } => order_cut(*n, *keep, *fill, board),
             Line::Opt(message) => {
                 answer_message(message.as_slice(), &self.meter, &mut self.optical, board)
             }
@@ -94,5 +91,107 @@ impl Station {
                 answer_bytes(bytes.as_slice(), &self.meter, &mut self.slave, board)
             }
         }
+    }
+
+    // Takes an event, lets the memory hold it, and acknowledges it. Where the power fails meanwhile, the station is
+    // started anew from what the memory holds then: with the event, or without it.
+    fn answer_event<B: Board>(
+        &mut self,
+        event: &Event,
+        taken: u32,
+        board: &mut B,
+    ) -> Result<(), Ended>
+        requires range { IsEvent event.now }
+        requires few { taken < 1000000 }
+        requires settled { B.tells → NothingPending (B.trace board.old) }
+        requires stands { B.tells → StandsOn (side_view self.old.side) (B.reads board.old) }
+        ensures leads { B.tells → (c : Configuration) (o : metering.MeterRecord) (script rest line after : List ℕ)
+            → IsReady c o script rest taken self.old (B.reads board.old) (B.trace board.old) → IsFirst rest line after → SaysAt taken line (grammar.Metering (event_view event.now))
+            → Leads c o script after (taken + 1) self.new (B.reads board.new) (B.trace board.new) result }
+        ensures settled { B.tells → OnOk result (NothingPending (B.trace board.new)) }
+        ensures stands { B.tells → OnOk result (StandsOn (side_view self.new.side) (B.reads board.new)) }
+        ensures base { B.tells → base_of (B.trace board.new) ≡ base_of (B.trace board.old) }
+        ensures counted { B.tells → CountsCuts (B.trace board.old) (B.trace board.new) (B.cuts board.old) (B.cuts board.new) }
+        ensures memory { IsErrOf result Ended.Memory → Rose (B.memory_faults board.old) (B.memory_faults board.new) }
+        ensures write { IsErrOf result Ended.Write → Rose (B.output_faults board.old) (B.output_faults board.new) }
+        ensures kind { IfErr result EndsAnswering }
+        ensures memory_faults { B.memory_faults board.old ≤ B.memory_faults board.new }
+        ensures output_faults { B.output_faults board.old ≤ B.output_faults board.new }
+        ensures cuts { B.cuts board.old ≤ B.cuts board.new }
+    {
+        match take_event(event, &mut self.meter) {
+            Ok(()) => {}
+            Err(kind) => return Err(Ended::Line { n: taken + 1, kind }),
+        }
+        match hold(&self.meter, self.side, board) {
+            Ok(side) => {
+                self.side = side;
+                acknowledge(&self.meter, board)
+            }
+            Err(Refusal::Cut) => self.restart(board),
+            Err(Refusal::Failed) => Err(Ended::Memory),
+        }
+    }
+
+    // Lets the power fail, and starts anew.
+    fn answer_power<B: Board>(&mut self, board: &mut B) -> Result<(), Ended>
+        requires settled { B.tells → NothingPending (B.trace board.old) }
+        ensures leads { B.tells → (c : Configuration) (o : metering.MeterRecord) (script rest line after : List ℕ) (taken : ℕ)
+            → IsReady c o script rest taken self.old (B.reads board.old) (B.trace board.old) → IsFirst rest line after → SaysAt taken line grammar.Power
+            → Leads c o script after (taken + 1) self.new (B.reads board.new) (B.trace board.new) result }
+        ensures settled { B.tells → OnOk result (NothingPending (B.trace board.new)) }
+        ensures stands { B.tells → OnOk result (StandsOn (side_view self.new.side) (B.reads board.new)) }
+        ensures base { B.tells → base_of (B.trace board.new) ≡ base_of (B.trace board.old) }
+        ensures counted { B.tells → CountsCuts (B.trace board.old) (B.trace board.new) (B.cuts board.old) (B.cuts board.new) }
+        ensures memory { IsErrOf result Ended.Memory → Rose (B.memory_faults board.old) (B.memory_faults board.new) }
+        ensures write { IsErrOf result Ended.Write → Rose (B.output_faults board.old) (B.output_faults board.new) }
+        ensures kind { IfErr result EndsAnswering }
+        ensures memory_faults { B.memory_faults board.old ≤ B.memory_faults board.new }
+        ensures output_faults { B.output_faults board.old ≤ B.output_faults board.new }
+        ensures cuts { B.cuts board.old ≤ B.cuts board.new }
+    {
+        match board.power() {
+            Ok(()) => self.restart(board),
+            Err(Failed) => Err(Ended::Memory),
+        }
+    }
+
+    // Starts anew from what the memory holds after a power failure, and tells it.
+    fn restart<B: Board>(&mut self, board: &mut B) -> Result<(), Ended>
+        ensures gives { B.tells → RestartGives (stored (B.reads board.old)) (B.trace board.old) self.new (B.trace board.new) result }
+        ensures reads { B.tells → B.reads board.new ≡ B.reads board.old }
+        ensures settled { B.tells → NothingPending (B.trace board.old) → OnOk result (NothingPending (B.trace board.new)) }
+        ensures stands { B.tells → OnOk result (StandsOn (side_view self.new.side) (B.reads board.new)) }
+        ensures base { B.tells → base_of (B.trace board.new) ≡ base_of (B.trace board.old) }
+        ensures counted { B.tells → CountsCuts (B.trace board.old) (B.trace board.new) (B.cuts board.old) (B.cuts board.new) }
+        ensures memory { IsErrOf result Ended.Memory → Rose (B.memory_faults board.old) (B.memory_faults board.new) }
+        ensures write { IsErrOf result Ended.Write → Rose (B.output_faults board.old) (B.output_faults board.new) }
+        ensures kind { IfErr result EndsAnswering }
+        ensures memory_faults { B.memory_faults board.old ≤ B.memory_faults board.new }
+        ensures output_faults { B.output_faults board.old ≤ B.output_faults board.new }
+        ensures cuts { B.cuts board.old ≤ B.cuts board.new }
+    {
+        match recover(board) {
+            Ok((config, recovered, side)) => {
+                *self = Station::start(Meter::start(config, recovered), side);
+                tell_recovered(&self.meter, board)
+            }
+            Err(fault) => Err(unreadable(fault)),
+        }
+    }
+}
+
+/// How a run ends whose memory can't be recovered.
+pub(crate) fn unreadable(fault: StoreFault) -> Ended
+    requires formatted { fault ≢ StoreFault.Formatted }
+    requires cut { fault ≢ StoreFault.Cut }
+    ensures gives { (memory : List ℕ) → RecoverGives (Err fault) memory → Unreadable (stored memory) result }
+    ensures kind { IsUnreadable result }
+    ensures memory { result ≡ Ended.Memory → fault ≡ StoreFault.Memory }
+{
+    match fault {
+        StoreFault::Unformatted { byte } => Ended::Unformatted { byte },
+        StoreFault::Foreign { at } => Ended::Foreign { at },
+        StoreFault::Memory | StoreFault::Formatted | StoreFault::Cut => Ended::Memory,
     }
 }

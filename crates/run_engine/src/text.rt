@@ -1,9 +1,9 @@
 //! The output lines.
-ghost use Rattle.std.specs.Prelude.{◌≡◌, ◌≤◌, ◌+◌, ◌++◌, ◌*◌, length, IfSome, option_map};
+ghost use Rattle.std.specs.Prelude.{◌≡◌, ◌≤◌, ◌+◌, ◌++◌, ◌*◌, codes, length, IfSome, option_map};
 ghost use Rattle.arrayvec.specs.ArrayVec.{array_vec_len};
 ghost use Rattle.hex.specs.Hex.{encode_lower};
 ghost use Rattle.metering_model.specs.Settings.{Settings};
-ghost use Rattle.journal_model.specs.Texts.{ok_text, readout_text, reply_shown, shown};
+ghost use Rattle.journal_model.specs.Texts.{ok_text, power_text, readout_text, reply_shown, shown};
 ghost use Rattle.billing_memory.specs.Records.{record_view};
 
 use arrayvec::{ArrayString, ArrayVec};
@@ -15,12 +15,27 @@ use optical_readout::REPLY_ROOM;
 pub const LINE_ROOM: usize = 160;
 
 /// The line `ok K VOL E B` for a record, where a pulse stands for `per_pulse` litres.
-#[tactic(auto, using(std::proofs::lemmas::List::append_assoc))]
 pub fn ok_line(meter_record: &MeterRecord, per_pulse: u16) -> ArrayString<LINE_ROOM>
     ensures { (c : Settings) → c.litres_per_pulse ≡ per_pulse → result.bytes ≡ ok_text c (record_view meter_record.now) }
 {
+    record_line("ok ", meter_record, per_pulse)
+}
+
+/// The line `power K VOL E B` for a record that was recovered, where a pulse stands for `per_pulse` litres.
+pub fn power_line(meter_record: &MeterRecord, per_pulse: u16) -> ArrayString<LINE_ROOM>
+    ensures { (c : Settings) → c.litres_per_pulse ≡ per_pulse → result.bytes ≡ power_text c (record_view meter_record.now) }
+{
+    record_line("power ", meter_record, per_pulse)
+}
+
+// The line of a record behind a name, which ends with its space.
+#[tactic(auto, using(std::proofs::lemmas::List::append_assoc))]
+fn record_line(name: &str, meter_record: &MeterRecord, per_pulse: u16) -> ArrayString<LINE_ROOM>
+    requires { length name.now ≤ 10 }
+    ensures { (c : Settings) → c.litres_per_pulse ≡ per_pulse → result.bytes ≡ name.now ++ shown c (record_view meter_record.now) ++ codes "\n" }
+{
     let mut line = ArrayString::new();
-    line.push_str("ok ");
+    line.push_str(name);
     push_shown(&mut line, meter_record, per_pulse);
     line.push_str("\n");
     line

@@ -2,9 +2,7 @@
 ghost use Rattle.std.specs.Prelude.{◌≡◌, ◌≤◌, ◌+◌, ℕ, List, [], length, IfErr, IsErrOf};
 ghost use Rattle.trace_model.specs.Trace.{IsFresh, base_of};
 ghost use Rattle.trace_model.specs.Output.{PutsAlone, output_lines};
-ghost use Rattle.script_model.specs.Lines.{lines_of};
 ghost use Rattle.pairing_model.specs.Journal.{Journal};
-ghost use Rattle.pairing_model.specs.Pairing.{NoneRefused};
 ghost use Rattle.billing_memory.specs.Records.{record_view};
 ghost use Rattle.event_script.specs.Next.{IsFirst, SaysAt};
 ghost use Rattle.event_script.specs.Views.{IsInRange, line_view};
@@ -12,7 +10,7 @@ ghost use Rattle.meter_config.specs.Views.{settings_of};
 ghost use Rattle.meter_board.specs.Causes.{Rose};
 ghost use Rattle.run_engine.specs.Dry.{EndsWithoutMemory, dry_opening, dry_setup, dry_settings};
 ghost use Rattle.run_engine.specs.Going.{Going, LeadsDry};
-ghost use Rattle.run_engine.specs.Ran.{Ran, StopsAtRead};
+ghost use Rattle.run_engine.specs.Ran.{IsDoneOrRefused, Ran, StopsAtRead};
 ghost use Rattle.run_engine.specs.Reads.{EndsAnswering};
 ghost use Rattle.run_engine.specs.Takes.{TakesDry};
 
@@ -35,7 +33,7 @@ pub fn dry<S: Source, B: Board>(source: &mut S, board: &mut B) -> Ended
     ensures kind { EndsWithoutMemory result }
     ensures puts { B.tells → PutsAlone (B.trace board.new) }
     ensures memory_untouched { B.memory_calls board.new ≡ B.memory_calls board.old }
-    ensures complete { S.tells → B.tells → NoneRefused dry_setup dry_opening (lines_of (S.left source.old)) → ¬ Rose (S.faults source.old) (S.faults source.new) → ¬ Rose (B.output_faults board.old) (B.output_faults board.new) → result ≡ Ended.Done }
+    ensures complete { ¬ Rose (S.faults source.old) (S.faults source.new) → ¬ Rose (B.output_faults board.old) (B.output_faults board.new) → IsDoneOrRefused result }
     ensures end { S.tells → B.tells → result ≡ Ended.Done → S.left source.new ≡ [] }
     ensures delivered { S.tells → B.tells → result ≡ Ended.Read → StopsAtRead (S.left source.old) (S.left source.new) (length (output_lines (B.trace board.new))) }
     ensures read { result ≡ Ended.Read → Rose (S.faults source.old) (S.faults source.new) }
@@ -100,6 +98,6 @@ fn take(said: &Line, meter: &mut Meter) -> Result<(), LineFault>
 {
     match said {
         Line::Metering(event) => take_event(event, meter),
-        Line::Opt(_) | Line::Mbus(_) => Err(LineFault::NotDry),
+        Line::Power | Line::Cut { .. } | Line::Opt(_) | Line::Mbus(_) => Err(LineFault::NotDry),
     }
 }

@@ -7,8 +7,8 @@ use Rattle.metering_model.specs.Events.{Sample, Pulse, Date}
 use Rattle.script_model.specs.Lines.{lines_of, words_of}
 use Rattle.script_model.specs.Numbers.{number_in}
 use Rattle.script_model.specs.Dates.{date_in}
-use Rattle.script_model.specs.Hex.{hex_in}
-use Rattle.script_model.specs.Grammar.{Metering, Opt, Mbus, line_of}
+use Rattle.script_model.specs.Hex.{byte_in, hex_in}
+use Rattle.script_model.specs.Grammar.{Metering, Power, Cut, Opt, Mbus, line_of}
 
 -- ---- lines and words
 
@@ -61,6 +61,22 @@ leap_day = refl
 last_date : line_of (codes "date 2099-12-31") ≡ Ok (Metering (Date 36524))
 unfolding day_number days_from_civil day_count days_of_years days_of_months
 last_date = refl
+
+-- the power fails, and a cut of it is ordered
+power : line_of (codes "power") ≡ Ok Power
+power = refl
+
+cut : line_of (codes "cut 1 7 5A") ≡ Ok (Cut 1 7 0x5a)
+unfolding decode_pairs
+cut = refl
+
+ends_of_cuts : line_of (codes "cut 65535 16384 fF") ≡ Ok (Cut 65535 16384 0xff)
+unfolding decode_pairs
+ends_of_cuts = refl
+
+nothing_kept : line_of (codes "cut 1 0 00") ≡ Ok (Cut 1 0 0)
+unfolding decode_pairs
+nothing_kept = refl
 
 -- digits of either case
 message : line_of (codes "opt 2F3F210D0A") ≡ Ok (Opt (0x2f ∷ 0x3f ∷ 0x21 ∷ 0x0d ∷ 0x0a ∷ []))
@@ -188,6 +204,56 @@ date_and_more : line_of (codes "date 2024-01-15 0") ≡ Err 2
 unfolding day_number days_from_civil day_count days_of_years days_of_months
 date_and_more = refl
 
+power_and_more : line_of (codes "power 1") ≡ Err 1
+power_and_more = refl
+
+space_behind_power : line_of (codes "power ") ≡ Err 1
+space_behind_power = refl
+
+no_call : line_of (codes "cut 0 0 00") ≡ Err 1
+unfolding decode_pairs
+no_call = refl
+
+call_too_late : line_of (codes "cut 65536 0 00") ≡ Err 1
+unfolding decode_pairs
+call_too_late = refl
+
+keep_too_great : line_of (codes "cut 1 16385 00") ≡ Err 2
+unfolding decode_pairs
+keep_too_great = refl
+
+fill_of_one_digit : line_of (codes "cut 1 0 0") ≡ Err 3
+unfolding decode_pairs
+fill_of_one_digit = refl
+
+fill_of_three_digits : line_of (codes "cut 1 0 000") ≡ Err 3
+unfolding decode_pairs
+fill_of_three_digits = refl
+
+fill_of_two_bytes : line_of (codes "cut 1 0 0000") ≡ Err 3
+unfolding decode_pairs
+fill_of_two_bytes = refl
+
+fill_no_digit : line_of (codes "cut 1 0 0g") ≡ Err 3
+unfolding decode_pairs
+fill_no_digit = refl
+
+no_fill : line_of (codes "cut 1 0") ≡ Err 3
+unfolding decode_pairs
+no_fill = refl
+
+no_keep : line_of (codes "cut 1") ≡ Err 2
+unfolding decode_pairs
+no_keep = refl
+
+cut_alone : line_of (codes "cut") ≡ Err 1
+unfolding decode_pairs
+cut_alone = refl
+
+cut_and_more : line_of (codes "cut 1 0 00 1") ≡ Err 4
+unfolding decode_pairs
+cut_and_more = refl
+
 odd_digits : line_of (codes "opt 2F3") ≡ Err 1
 unfolding decode_pairs
 odd_digits = refl
@@ -248,3 +314,15 @@ no_bytes = refl
 mixed_case : hex_in (codes "aBCd") ≡ Some (0xab ∷ 0xcd ∷ [])
 unfolding decode_pairs
 mixed_case = refl
+
+one_byte_said : byte_in (codes "a5") ≡ Some 0xa5
+unfolding decode_pairs
+one_byte_said = refl
+
+no_byte_said : byte_in (codes "") ≡ None
+unfolding decode_pairs
+no_byte_said = refl
+
+two_bytes_said : byte_in (codes "A5a5") ≡ None
+unfolding decode_pairs
+two_bytes_said = refl

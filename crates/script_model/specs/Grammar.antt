@@ -5,10 +5,15 @@ use Rattle.metering_model.specs.Events.{Event, Sample, Pulse, Date}
 use Rattle.script_model.specs.Lines.{words_of}
 use Rattle.script_model.specs.Numbers.{number_in}
 use Rattle.script_model.specs.Dates.{date_in}
-use Rattle.script_model.specs.Hex.{hex_in}
+use Rattle.script_model.specs.Hex.{byte_in, hex_in}
 
 pub data Line : Type 0 where
   Metering : (event : Event) → Line
+  -- the power fails
+  Power : Line
+  -- a cut of the power is ordered: within the n-th store or sync from now on; that store's first bytes, so many, are
+  -- written, and this byte in the place of the others
+  Cut : (n keep fill : ℕ) → Line
   -- a message to the optical head
   Opt : (message : List ℕ) → Line
   -- bytes on the M-Bus
@@ -43,6 +48,14 @@ max_sample = 4294967295
 abbrev pub max_pulses : ℕ
 max_pulses = 1000000000000000
 
+-- the latest store or sync, counted from a `cut` line on, that it can name
+abbrev pub max_calls : ℕ
+max_calls = 65535
+
+-- the bytes of the memory
+abbrev pub memory_size : ℕ
+memory_size = 16384
+
 -- `sample RF RR`
 abbrev pub sample_line : List (List ℕ) → Result Line ℕ
 sample_line words =
@@ -55,6 +68,15 @@ pulse_line words = word_at 1 (number_in 1 max_pulses) words >>= λ n. end_at 2 (
 -- `date YYYY-MM-DD`
 abbrev pub date_line : List (List ℕ) → Result Line ℕ
 date_line words = word_at 1 date_in words >>= λ day. end_at 2 (Metering (Date day.0)) day.1
+
+-- `power`
+abbrev pub power_line : List (List ℕ) → Result Line ℕ
+power_line words = end_at 1 Power words
+
+-- `cut N KEEP FILL`
+abbrev pub cut_line : List (List ℕ) → Result Line ℕ
+cut_line words =
+    word_at 1 (number_in 1 max_calls) words >>= λ n. word_at 2 (number_in 0 memory_size) n.1 >>= λ keep. word_at 3 byte_in keep.1 >>= λ fill. end_at 4 (Cut n.0 keep.0 fill.0) fill.1
 
 -- `opt HEX`
 abbrev pub opt_line : List (List ℕ) → Result Line ℕ
@@ -70,8 +92,10 @@ line_named name words =
     cond (pointwise nat_eq name (codes "sample")) (sample_line words)
     (cond (pointwise nat_eq name (codes "pulse")) (pulse_line words)
     (cond (pointwise nat_eq name (codes "date")) (date_line words)
+    (cond (pointwise nat_eq name (codes "power")) (power_line words)
+    (cond (pointwise nat_eq name (codes "cut")) (cut_line words)
     (cond (pointwise nat_eq name (codes "opt")) (opt_line words)
-    (cond (pointwise nat_eq name (codes "mbus")) (mbus_line words) (Err 0)))))
+    (cond (pointwise nat_eq name (codes "mbus")) (mbus_line words) (Err 0)))))))
 
 abbrev pub line_of_words : List (List ℕ) → Result Line ℕ
 line_of_words [] = Err 0

@@ -1,7 +1,6 @@
-use Rattle.std.proofs.Common.{◌≡◌, true, false, length, take, drop, sym, ap, subst, ◌∙◌, refl, ◌==◌, inl, inr, Some, None}
+use Rattle.std.proofs.Common.{◌≡◌, true, false, drop, sym, subst, refl, ◌==◌, inl, inr, Some, None}
 use Rattle.std.proofs.lemmas.List.{take_rest}
 use Rattle.std.specs.List.{position}
-use Rattle.journal_model.specs.Faults.{has_no_end}
 use Rattle.event_script.proofs.Ends.{ends-later, ends-position, no_end-later, no_end-position, opens}
 use Rattle.event_script.proofs.next.first_len.Goals as goal
 

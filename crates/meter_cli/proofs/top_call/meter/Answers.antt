@@ -1,5 +1,6 @@
 use Rattle.std.proofs.Common.{subst, sym}
 use Rattle.trace_model.specs.Output.{PutsAlone}
+use Rattle.reading_model.specs.Messages.{message_in}
 use Rattle.reading_model.specs.Telegrams.{telegram_in}
 use Rattle.meter_cli.proofs.Certs.{cert_alone, cert_base, cert_ends}
 use Rattle.meter_cli.proofs.Inits.{each_moment}
@@ -54,3 +55,13 @@ returns-in-Ok-ReadMbus-clause-read_mbus_complete g c = λ is told unread unwritt
 
 pub returns-in-Ok-ReadMbus-clause-puts : goal.returns-in-Ok-ReadMbus-clause-puts
 returns-in-Ok-ReadMbus-clause-puts g c = λ other not_run tells. c.mbus.ensures.alone tells (subst PutsAlone (sym (c.requires tells)) tt)
+
+pub returns-in-Ok-ReadOptical-clause-read_optical_complete : goal.returns-in-Ok-ReadOptical-clause-read_optical_complete
+returns-in-Ok-ReadOptical-clause-read_optical_complete g c = λ is told unread unwritten.
+    complete (message_in (g.S.Source.left c.args.source.now)) c.optical.result (c.optical.ensures.answers told) (λ read. unread (c.optical.ensures.read read)) (λ write. unwritten (c.optical.ensures.write write))
+
+pub returns-in-Ok-ReadOptical-clause-puts : goal.returns-in-Ok-ReadOptical-clause-puts
+returns-in-Ok-ReadOptical-clause-puts g c = λ other not_run tells. c.optical.ensures.alone tells (subst PutsAlone (sym (c.requires tells)) tt)
+
+pub returns-in-Ok-Run-clause-run_few_lost : goal.returns-in-Ok-Run-clause-run_few_lost
+returns-in-Ok-Run-clause-run_few_lost g c = λ config o side j is reads tells held pairs. c.run.ensures.few_lost reads tells config o side j held pairs

@@ -1,4 +1,5 @@
-use Rattle.std.proofs.Common.{Ok, subst, sym}
+use Rattle.std.proofs.Common.{Ok, Err, ap, refl, subst, sym}
+use Rattle.trace_model.specs.Images.{NothingPending}
 use Rattle.trace_model.proofs.Moments.{Grew-base}
 use Rattle.register_store.specs.Commits.{StandsOn}
 use Rattle.register_store.specs.Recovered.{side_view}
@@ -32,3 +33,9 @@ returns-in-Err-Cut-clause-base g c = λ tells. let stands = c.requires.stands te
 
 pub returns-in-Err-clause-base : goal.returns-in-Err-clause-base
 returns-in-Err-clause-base g c = λ tells. let stands = c.requires.stands tells in Grew-base (c.commit.ensures.moments tells stands.config stands.held stands.is)
+
+pub returns-in-Err-Cut-clause-cut_settled : goal.returns-in-Err-Cut-clause-cut_settled
+returns-in-Err-Cut-clause-cut_settled g c = λ tells is.
+    let stands = c.requires.stands tells in
+    let ends = c.in-Err-Cut.ensures.at_cut tells stands.config stands.held stands.is (ap Err c.in-Err-Cut.field-0-is) in
+    subst NothingPending (sym ends.last) refl

@@ -1,4 +1,4 @@
-use Rattle.std.proofs.Common.{◌≡◌, ◌+◌, ◌∙◌, ◌++◌, Err, ap, refl, sym, subst, arith}
+use Rattle.std.proofs.Common.{◌+◌, ◌∙◌, ◌++◌, Err, ap, refl, sym, subst, arith}
 use Rattle.trace_model.specs.Images.{NothingPending}
 use Rattle.pairing_model.specs.Journal.{at_start}
 use Rattle.billing_memory.specs.Records.{record_view}
@@ -26,6 +26,7 @@ loop-said-init g c =
     record {
       ready = λ told tells. subst (λ n. IsReady config opening script (held c.new-lines.result.buffer ++ script) n c.start-station.result reads t) (sym c.new-lines.ensures.given)
           (subst (λ b. IsReady config opening script (b ++ script) 0 c.start-station.result reads t) (sym c.new-lines.ensures.held) (record {
+            config = sym (ap (λ (m : Meter). config_view m.config) c.start-station.ensures.meter);
             journal = at_start;
             between = subst (λ (m : Meter). Between config opening script script 0 at_start (record_view m.record) (side_view c.start-station.result.side) reads t) (sym c.start-station.ensures.meter)
                 (subst (λ s. Between config opening script script 0 at_start opening (side_view s) reads t) (sym c.start-station.ensures.side)
@@ -35,7 +36,7 @@ loop-said-init g c =
           }));
       stands = λ tells. subst (λ s. StandsOn (side_view s) reads) (sym c.start-station.ensures.side) (record { config = config; held = opening; is = c.requires.holds tells });
       settled = λ tells. subst NothingPending (sym (c.requires.fresh tells)) refl;
-      config = ap (λ (m : Meter). m.config) c.start-station.ensures.meter;
+      counted = λ tells first enough. enough;
       fresh = c.new-lines.ensures.has_ended;
       faults = omega arith;
       memory_faults = omega arith;
@@ -71,7 +72,7 @@ returns-in-Err-answer-clause-ran g c = λ told tells.
     let script = g.S.Source.left c.args.source.now in
     let rest = held l.lines.buffer ++ g.S.Source.left l.source in
     let said = c.in-Ok.ensures.gives told in
-    c.in-Err-answer.ensures.leads tells config opening script rest said.line (held c.next_line.new.lines.buffer ++ g.S.Source.left c.next_line.new.source) (ap config_view (sym l.invariant.config))
+    c.in-Err-answer.ensures.leads tells config opening script rest said.line (held c.next_line.new.lines.buffer ++ g.S.Source.left c.next_line.new.source)
     (subst (λ n. IsReady config opening script rest n l.station (g.B.Board.reads l.board) (g.B.Board.trace l.board)) (sym c.given-taken.ensures) (l.invariant.ready told tells)) said.first
     (subst (λ n. SaysAt n said.line (line_view c.in-Ok.said)) (sym c.given-taken.ensures) said.says)
 
@@ -87,12 +88,12 @@ loop-said-preserved g c =
           let after = held c.next_line.new.lines.buffer ++ g.S.Source.left c.next_line.new.source in
           let said = c.in-Ok.ensures.gives told in
           subst (λ n. IsReady config opening script after n c.answer.new.self (g.B.Board.reads c.answer.new.board) (g.B.Board.trace c.answer.new.board)) (ap (λ n. n + 1) c.given-taken.ensures ∙ sym c.in-Ok.ensures.given)
-          (c.in-Ok-answer.ensures.leads tells config opening script rest said.line after (ap config_view (sym l.invariant.config))
+          (c.in-Ok-answer.ensures.leads tells config opening script rest said.line after
           (subst (λ n. IsReady config opening script rest n l.station (g.B.Board.reads l.board) (g.B.Board.trace l.board)) (sym c.given-taken.ensures) (l.invariant.ready told tells)) said.first
           (subst (λ n. SaysAt n said.line (line_view c.in-Ok.said)) (sym c.given-taken.ensures) said.says));
       stands = λ tells. c.in-Ok-answer.ensures.stands tells;
       settled = λ tells. c.in-Ok-answer.ensures.settled tells;
-      config = c.answer.ensures.config ∙ l.invariant.config;
+      counted = λ tells first enough. c.answer.ensures.counted tells first (l.invariant.counted tells first enough);
       fresh = c.in-Ok.ensures.fresh;
       faults = omega (arith, l.invariant.faults, c.in-Ok.ensures.later);
       memory_faults = omega (arith, l.invariant.memory_faults, c.answer.ensures.memory_faults);

@@ -5,9 +5,11 @@ use Rattle.trace_model.proofs.Images.{fresh_image}
 use Rattle.billing_memory.specs.Records.{record_view}
 use Rattle.meter_config.specs.Views.{config_view}
 use Rattle.register_store.specs.Recovered.{side_view}
-use Rattle.run_engine.specs.Ran.{AnswersLines}
+use Rattle.register_store.specs.Works.{count_of, is_forced_cut}
+use Rattle.pairing_model.specs.Setup.{on_memory}
 use Rattle.run_engine.specs.Run.{RanOnMemory, RunLeaves}
 use Rattle.run_engine.specs.Steps.{IsUnreadable, Unreadable}
+use Rattle.run_engine.proofs.FewLost.{few_lost, no_cut}
 use Rattle.run_engine.proofs.Unanswered.{complete_from, unreadable_leaves}
 use Rattle.run_engine.proofs.on_memory.run.Goals as goal
 
@@ -25,10 +27,19 @@ returns-in-Ok-clause-leaves g c = λ reads tells.
     (subst (λ m. RanOnMemory (config_view c.start.result.config) (record_view m) script trace c.answer_lines.result) c.start.ensures.record (c.answer_lines.ensures.ran reads tells)))
 
 pub returns-in-Ok-clause-complete : goal.returns-in-Ok-clause-complete
-returns-in-Ok-clause-complete g c = λ reads tells config o side is none no_read no_memory no_write no_cut.
+returns-in-Ok-clause-complete g c = λ reads tells config o side is no_read no_memory no_write.
     complete_from (stored (base_of (g.B.Board.trace c.args.board.now))) config o side (g.S.Source.left c.args.source.now) (g.B.Board.trace c.answer_lines.new.board) c.answer_lines.result is (returns-in-Ok-clause-leaves g c reads tells)
     (λ e. no_read (c.answer_lines.ensures.read e)) (λ e. no_write (omega (arith, c.answer_lines.ensures.write e, c.recover.ensures.output_faults))) (λ e. no_memory (omega (arith, c.answer_lines.ensures.memory e, c.recover.ensures.memory_faults)))
-    (λ e. no_cut (omega (arith, c.answer_lines.ensures.cut e, c.recover.ensures.cuts))) none
+
+pub returns-in-Ok-clause-few_lost : goal.returns-in-Ok-clause-few_lost
+returns-in-Ok-clause-few_lost g c = λ reads tells config o side j is pairs.
+    few_lost (on_memory config) o (g.S.Source.left c.args.source.now) (g.B.Board.trace c.args.board.now) (g.B.Board.trace c.answer_lines.new.board) j (g.B.Board.cuts c.args.board.now) (g.B.Board.cuts c.answer_lines.new.board) (c.requires tells)
+    (λ first enough. c.answer_lines.ensures.counted tells first (no_cut (g.B.Board.trace c.args.board.now) (g.B.Board.trace c.recover.new.board) (g.B.Board.cuts c.args.board.now) (g.B.Board.cuts c.recover.new.board) (ap (count_of is_forced_cut) (c.recover.ensures.trace tells)) c.recover.ensures.cuts first enough)) pairs
+
+pub returns-in-Err-clause-few_lost : goal.returns-in-Err-clause-few_lost
+returns-in-Err-clause-few_lost g c = λ reads tells config o side j is pairs.
+    few_lost (on_memory config) o (g.S.Source.left c.args.source.now) (g.B.Board.trace c.args.board.now) (g.B.Board.trace c.recover.new.board) j (g.B.Board.cuts c.args.board.now) (g.B.Board.cuts c.recover.new.board) (c.requires tells)
+    (no_cut (g.B.Board.trace c.args.board.now) (g.B.Board.trace c.recover.new.board) (g.B.Board.cuts c.args.board.now) (g.B.Board.cuts c.recover.new.board) (ap (count_of is_forced_cut) (c.recover.ensures.trace tells)) c.recover.ensures.cuts) pairs
 
 pub returns-in-Err-clause-leaves : goal.returns-in-Err-clause-leaves
 returns-in-Err-clause-leaves g c = λ reads tells.
@@ -41,6 +52,6 @@ returns-in-Err-clause-leaves g c = λ reads tells.
     (subst (λ m. Unreadable m c.unreadable.result) (ap stored base) (c.unreadable.ensures.gives (g.B.Board.reads c.args.board.now) (c.in-Err.ensures.gives tells))))
 
 pub returns-in-Err-clause-complete : goal.returns-in-Err-clause-complete
-returns-in-Err-clause-complete g c = λ reads tells config o side is none no_read no_memory no_write no_cut.
+returns-in-Err-clause-complete g c = λ reads tells config o side is no_read no_memory no_write.
     complete_from (stored (base_of (g.B.Board.trace c.args.board.now))) config o side (g.S.Source.left c.args.source.now) (g.B.Board.trace c.recover.new.board) c.unreadable.result is (returns-in-Err-clause-leaves g c reads tells)
-    (λ e. subst IsUnreadable e c.unreadable.ensures.kind) (λ e. subst IsUnreadable e c.unreadable.ensures.kind) (λ e. no_memory (c.in-Err.ensures.memory (ap Err (c.unreadable.ensures.memory e)))) (λ e. subst IsUnreadable e c.unreadable.ensures.kind) none
+    (λ e. subst IsUnreadable e c.unreadable.ensures.kind) (λ e. subst IsUnreadable e c.unreadable.ensures.kind) (λ e. no_memory (c.in-Err.ensures.memory (ap Err (c.unreadable.ensures.memory e))))

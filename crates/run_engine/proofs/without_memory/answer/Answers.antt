@@ -1,4 +1,4 @@
-use Rattle.std.proofs.Common.{◌≡◌, ◌+◌, ◌∙◌, ap, refl, sym, subst, arith}
+use Rattle.std.proofs.Common.{◌+◌, ◌∙◌, ap, refl, sym, subst, arith}
 use Rattle.journal_model.specs.Faults.{Dry}
 use Rattle.pairing_model.specs.Journal.{Journal}
 use Rattle.billing_memory.specs.Records.{record_view}

@@ -1,4 +1,4 @@
-use Rattle.std.proofs.Common.{◌≡◌, ◌+◌, ◌∙◌, ◌++◌, Err, ap, refl, sym, subst, arith}
+use Rattle.std.proofs.Common.{◌+◌, ◌∙◌, ◌++◌, Err, ap, refl, sym, subst, arith}
 use Rattle.billing_memory.specs.Records.{record_view}
 use Rattle.meter_config.specs.Views.{settings_of}
 use Rattle.pairing_model.specs.Journal.{Journal}
@@ -6,7 +6,7 @@ use Rattle.trace_model.specs.Output.{PutsAlone}
 use Rattle.event_script.specs.Held.{held}
 use Rattle.event_script.specs.Next.{SaysAt}
 use Rattle.event_script.specs.Views.{line_view}
-use Rattle.run_engine.specs.Dry.{EndsWithoutMemory, dry_opening, dry_setup, dry_settings}
+use Rattle.run_engine.specs.Dry.{EndsWithoutMemory, dry_opening, dry_setup}
 use Rattle.run_engine.specs.Going.{Going}
 use Rattle.run_engine.specs.Reads.{EndsAnswering, EndsReading}
 use Rattle.run_engine.proofs.Complete.{completes}
@@ -52,9 +52,9 @@ returns-in-Err-clause-delivered g c = λ reads tells is.
     (held c.next_line.new.lines.buffer) (g.S.Source.left c.next_line.new.source) c.in-Err.ended is (c.in-Err.ensures.gives reads) (c.in-Err.ensures.open (ap Err is))
 
 pub returns-in-Err-clause-complete : goal.returns-in-Err-clause-complete
-returns-in-Err-clause-complete g c = λ reads tells none no_read no_write.
-    completes dry_setup dry_opening (g.S.Source.left c.args.source.now) (g.B.Board.trace c.loop-said.board) c.in-Err.ended (returns-in-Err-clause-ran g c reads tells)
-    (λ is. no_read (omega (arith, c.in-Err.ensures.fault (ap Err is), c.loop-said.invariant.faults))) (λ is. subst EndsReading is c.in-Err.ensures.kind) (λ is. subst EndsReading is c.in-Err.ensures.kind) (λ is. subst EndsReading is c.in-Err.ensures.kind) none
+returns-in-Err-clause-complete g c = λ no_read no_write.
+    completes c.in-Err.ended
+    (λ is. no_read (omega (arith, c.in-Err.ensures.fault (ap Err is), c.loop-said.invariant.faults))) (λ is. subst EndsReading is c.in-Err.ensures.kind) (λ is. subst EndsReading is c.in-Err.ensures.kind) (λ byte is. subst EndsReading is c.in-Err.ensures.kind) (λ at is. subst EndsReading is c.in-Err.ensures.kind)
 
 pub returns-in-Err-answer-clause-ran : goal.returns-in-Err-answer-clause-ran
 returns-in-Err-answer-clause-ran g c = λ reads tells.
@@ -66,9 +66,10 @@ returns-in-Err-answer-clause-ran g c = λ reads tells.
     (subst (λ n. SaysAt n said.line (line_view c.in-Ok.said)) (sym c.given-taken.ensures) said.says)
 
 pub returns-in-Err-answer-clause-complete : goal.returns-in-Err-answer-clause-complete
-returns-in-Err-answer-clause-complete g c = λ reads tells none no_read no_write.
-    completes dry_setup dry_opening (g.S.Source.left c.args.source.now) _ c.in-Err-answer.ended (returns-in-Err-answer-clause-ran g c reads tells)
-    (λ is. subst EndsAnswering is c.in-Err-answer.ensures.kind) (λ is. no_write (omega (arith, c.in-Err-answer.ensures.write (ap Err is), c.loop-said.invariant.output_faults))) (λ is. subst EndsWithoutMemory is c.in-Err-answer.ensures.without_memory) (λ is. subst EndsWithoutMemory is c.in-Err-answer.ensures.without_memory) none
+returns-in-Err-answer-clause-complete g c = λ no_read no_write.
+    completes c.in-Err-answer.ended
+    (λ is. subst EndsAnswering is c.in-Err-answer.ensures.kind) (λ is. no_write (omega (arith, c.in-Err-answer.ensures.write (ap Err is), c.loop-said.invariant.output_faults))) (λ is. subst EndsWithoutMemory is c.in-Err-answer.ensures.without_memory)
+    (λ byte is. subst EndsWithoutMemory is c.in-Err-answer.ensures.without_memory) (λ at is. subst EndsWithoutMemory is c.in-Err-answer.ensures.without_memory)
 
 pub loop-said-preserved : goal.loop-said-preserved
 loop-said-preserved g c =

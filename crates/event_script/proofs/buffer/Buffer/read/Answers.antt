@@ -1,4 +1,4 @@
-use Rattle.std.proofs.Common.{◌≡◌, ◌-◌, length, take, rules}
+use Rattle.std.proofs.Common.{◌-◌, take, rules}
 use Rattle.std.proofs.lemmas.List.{length-take-le}
 use Rattle.event_script.proofs.Held.{longer_part, untouched_part}
 use Rattle.event_script.proofs.buffer.Buffer.read.Goals as goal

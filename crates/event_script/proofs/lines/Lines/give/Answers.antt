@@ -1,4 +1,4 @@
-use Rattle.std.proofs.Common.{◌≡◌, ◌+◌, take, drop, length, min, sym, ap, subst, ◌∙◌, arith}
+use Rattle.std.proofs.Common.{◌+◌, take, drop, length, ap, subst, ◌∙◌, arith}
 use Rattle.std.proofs.lemmas.List.{drop_min}
 use Rattle.event_script.specs.Held.{held}
 use Rattle.event_script.specs.Next.{SaysAt}

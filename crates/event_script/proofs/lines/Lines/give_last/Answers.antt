@@ -1,4 +1,4 @@
-use Rattle.std.proofs.Common.{◌≡◌, ◌+◌, ◌<◌, take, drop, length, ap, subst, arith}
+use Rattle.std.proofs.Common.{◌≡◌, ◌+◌, take, drop, length, ap, subst, arith}
 use Rattle.event_script.specs.Held.{held}
 use Rattle.event_script.specs.Next.{GivesLine}
 use Rattle.event_script.proofs.Ends.{open_parts}

@@ -1,22 +1,21 @@
-use Rattle.std.proofs.Common.{◌≡◌, ℕ, ◌+◌, ◌++◌, ◌⊎◌, inl, inr, true, Option, List, [], length, take, drop, refl, sym, ap, subst, ◌∙◌, arith, rules, append_assoc, length-append}
-use Rattle.std.proofs.lemmas.List.{take_at}
+use Rattle.std.proofs.Common.{◌≡◌, ℕ, ◌+◌, ◌++◌, inr, true, Option, [], take, drop, refl, sym, ap, subst, ◌∙◌, arith, append_assoc}
 use Rattle.std.specs.Prelude.{MatchOption}
-use Rattle.journal_model.specs.Faults.{has_no_end, is_open}
+use Rattle.journal_model.specs.Faults.{is_open}
 use Rattle.event_script.specs.Held.{held}
-use Rattle.event_script.specs.Next.{AsksWhereOpen, Decides, GivesLine, NextGives}
-use Rattle.event_script.proofs.Nexts.{asked, gives_decided}
+use Rattle.event_script.specs.Next.{Decides, GivesLine, NextGives}
+use Rattle.event_script.proofs.Nexts.{asked, gives_decided, undecided}
 use Rattle.event_script.proofs.lines.Lines.next.Goals as goal
 
 pub returns-in-Ok-eq0-clause-asks : goal.returns-in-Ok-eq0-clause-asks
 returns-in-Ok-eq0-clause-asks g c = inr (λ tells.
     let d = c.loop-decided.invariant.delivered tells in
-    let was : is_open c.args.self.now.given (held c.loop-decided.self.buffer) ≡ true = search rules in
+    let was : is_open c.args.self.now.given (held c.loop-decided.self.buffer) ≡ true = undecided c.args.self.now.given (held c.loop-decided.self.buffer) c.loop-decided.decided c.loop-decided-test.ensures c.loop-decided.invariant.decided in
     let f = c.in-Ok-eq0.ensures.filled in
     asked c.args.self.now.given (held c.args.self.now.buffer) (held c.loop-decided.self.buffer) d.0 f.bytes (g.S.Source.left c.args.source.now) (g.S.Source.left c.loop-decided.source) (g.S.Source.left c.fill.new.source) d.1 d.2 (f.delivered tells) was)
 
 pub loop-decided-preserved : goal.loop-decided-preserved
 loop-decided-preserved g c =
-    let was : is_open c.args.self.now.given (held c.loop-decided.self.buffer) ≡ true = search rules in
+    let was : is_open c.args.self.now.given (held c.loop-decided.self.buffer) ≡ true = undecided c.args.self.now.given (held c.loop-decided.self.buffer) c.loop-decided.decided c.loop-decided-test.ensures c.loop-decided.invariant.decided in
     let f = c.in-Ok.ensures.filled in
     let now = held c.fill.new.self in
     record {
@@ -31,7 +30,7 @@ loop-decided-preserved g c =
 pub returns-in-Err-clause-asks : goal.returns-in-Err-clause-asks
 returns-in-Err-clause-asks g c = inr (λ tells.
     let d = c.loop-decided.invariant.delivered tells in
-    let was : is_open c.args.self.now.given (held c.loop-decided.self.buffer) ≡ true = search rules in
+    let was : is_open c.args.self.now.given (held c.loop-decided.self.buffer) ≡ true = undecided c.args.self.now.given (held c.loop-decided.self.buffer) c.loop-decided.decided c.loop-decided-test.ensures c.loop-decided.invariant.decided in
     asked c.args.self.now.given (held c.args.self.now.buffer) (held c.loop-decided.self.buffer) d.0 [] (g.S.Source.left c.args.source.now) (g.S.Source.left c.loop-decided.source) (g.S.Source.left c.fill.new.source) d.1 d.2 (sym (c.in-Err.ensures.kept tells)) was)
 
 pub returns-in-Some-clause-gives : goal.returns-in-Some-clause-gives

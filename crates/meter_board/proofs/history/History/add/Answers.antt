@@ -21,11 +21,13 @@ returns-in-Store c =
     let bytes = c.args.bytes.now in
     let pushed : c.push.new.self.items ≡ h.marks.items ++ c.args.mark ∷ [] = c.push.ensures.items ∙ ap (λ r. if is_ok r then h.marks.items ++ c.args.mark ∷ [] else h.marks.items) c.unwrap.ensures in
     let stored : c.extend_from_slice-in-Store.new.self.items ≡ h.stored.items ++ bytes = c.extend_from_slice-in-Store.ensures.items ∙ ap (λ r. if is_ok r then h.stored.items ++ bytes else h.stored.items) c.unwrap-in-Store.ensures in
-    let kept : put_of c.args.mark ≡ 0 = elim c.in-Store.is [ inl store ↦ ap put_of store.2 | inr other ↦ elim other [ inl sync ↦ ap put_of sync | inr missed ↦ ap put_of missed ] ] in
+    let kept : put_of c.args.mark ≡ 0 = elim c.in-Store.is [ inl store ↦ ap put_of store.2 | inr other ↦ elim other [ inl sync ↦ ap put_of sync | inr later ↦ elim later [ inl missed ↦ ap put_of missed | inr last ↦ elim last [ inl arm ↦ ap put_of arm.3 | inr cut ↦ ap put_of cut.2 ] ] ] ] in
     record {
       room = search rules;
       added = λ _. (λ i. told (Start h.base.items) (pushed i) (stored i) h.output.items) ∙ kept_told (Start h.base.items) h.marks.items h.stored.items h.output.items c.args.mark bytes h.stored_whole h.output_whole kept c.requires;
       full = λ e. absurd cc;
+      entries = search rules;
+      bytes = search rules;
       entry_room = refl;
       byte_room = refl;
     }
