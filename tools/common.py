@@ -21,22 +21,29 @@ MEMORY = "register.bin"
 MEMORY_BYTES = 16384
 FIRST_DAY = date(2000, 1, 1)
 HERE = pathlib.Path(os.path.realpath(__file__)).parent
+ENDING_SIGNALS = (signal.SIGINT, signal.SIGTERM, signal.SIGHUP)
 
 # Each line of the launcher's own on standard error begins so.
 LAUNCHER_MARK = "heat-meter: "
+
+MILLIJOULES_A_KWH = 3_600_000_000
 
 
 # Ends and streams.
 
 
-def say(tool: str, text: str) -> None:
+def tell(line: str) -> None:
     """A line on standard error; where that is closed or full the line is lost, and all else goes on."""
     try:
         if sys.stderr is not None:
-            sys.stderr.write(f"{tool}: {text}\n")
+            sys.stderr.write(f"{line}\n")
             sys.stderr.flush()
     except OSError:
         pass
+
+
+def say(tool: str, text: str) -> None:
+    tell(f"{tool}: {text}")
 
 
 def stop(tool: str, text: str, status: int = 1) -> NoReturn:
@@ -50,9 +57,22 @@ def quiet_pipes() -> None:
 
 
 def end_at_signals() -> None:
-    """Lets a signal end the tool in order, so that its temporary folders are removed."""
-    for number in (signal.SIGINT, signal.SIGTERM, signal.SIGHUP):
-        signal.signal(number, lambda got, _: sys.exit(128 + got))
+    """Lets a signal end the tool in order, so that its temporary folders are removed. What is ignored stays so."""
+    for number in ENDING_SIGNALS:
+        if signal.getsignal(number) != signal.SIG_IGN:
+            signal.signal(number, lambda got, _: sys.exit(128 + got))
+
+
+def fill_streams() -> None:
+    """Puts something into the place of each closed stream, so that no file of the tool gets its number.
+
+    It can't be written where standard output was: a program that is started gets it as one that fails.
+    """
+    for number in range(3):
+        try:
+            os.fstat(number)
+        except OSError:
+            os.open(os.devnull, os.O_RDWR if number == 2 else os.O_RDONLY)
 
 
 def run_tool(tool: str, main: Callable[[List[str]], int]) -> NoReturn:
@@ -60,6 +80,7 @@ def run_tool(tool: str, main: Callable[[List[str]], int]) -> NoReturn:
 
     No failing stream or file ends it with a traceback: what `main` did not explain is one line.
     """
+    fill_streams()
     quiet_pipes()
     end_at_signals()
     if sys.stderr is None:
@@ -156,13 +177,17 @@ def parser(tool: str, text: str) -> argparse.ArgumentParser:
 # Numbers.
 
 
-def decimal_text(value: Union[int, Fraction], places: int, up: bool = False) -> str:
-    """The value with this many decimals, rounded half to even; `up`: rounded up, as a bound has to be."""
-    scaled = Fraction(value) * 10**places
-    whole = -(-scaled.numerator // scaled.denominator) if up else round(scaled)
+def decimal_text(value: Union[int, Fraction], places: int, rounded: Callable[[Fraction], int] = round) -> str:
+    """The value with this many decimals, rounded half to even, or by `math.floor` or `math.ceil`, as a bound has to be."""
+    whole = rounded(Fraction(value) * 10**places)
     digits = str(abs(whole)).rjust(places + 1, "0")
     text = f"{digits[:-places]}.{digits[-places:]}" if places else digits
     return f"-{text}" if whole < 0 else text
+
+
+def calculator_limit(least: Union[int, Fraction], difference: Fraction) -> Fraction:
+    """EN 1434-1's limit of the error of a calculator, in percent, at a difference of temperatures and its least one."""
+    return Fraction(1, 2) + Fraction(least) / difference
 
 
 # The program.
