@@ -1,2 +1,10 @@
 pub mod Divisions
 pub mod Decimals
+pub mod Steps
+pub mod Horner
+pub mod Factors
+pub mod Scaling
+pub mod Tables
+pub mod Shares
+pub mod Sums
+pub mod Coefficients

@@ -1,1 +1,4 @@
 pub mod Coefficients
+pub mod Parts
+pub mod Sizes
+pub mod Polynomials

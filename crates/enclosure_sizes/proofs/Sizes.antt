@@ -7,9 +7,10 @@ use native.Mathlib.Nat.{mul-le-mul, mul-le-mul_right, mul-le-mul_left, le_trans,
 use lib.IntN.{◌-ℤ◌}
 use Rattle.number_model.specs.Rounding.{floor_div, ceil_div}
 use Rattle.number_model.proofs.Ints.{flip_le, neg-*ℤ, as_diff, same_diff, diffs, ≤ℤ_trans, mul-le_pos, le_of_mul-le_pos, recast}
-use Rattle.number_model.proofs.Roundings.{floor_at_least, ceil_at_most}
+use Rattle.number_model.proofs.Roundings.{floor_at_least, ceil_at_most, floor-le_ceil}
+use Rattle.interval_num.proofs.EndsLemmas.{least_of-le_greatest}
 use Rattle.interval_num.specs.Ends.{least_product, greatest_product, IsPower}
-use Rattle.enclosure_sizes.specs.Size.{Sized, parts, slope, product_most, product_line, power_most, power_line}
+use Rattle.enclosure_sizes.specs.Size.{Size, Sized, SizedBy, parts, slope, product_most, product_line, power_most, power_line, product_size, sum_size}
 use Rattle.enclosure_sizes.proofs.Ranges.{products_within, ends_low, ends_high}
 
 abs_of : (n : ℕ) (z : ℤ) → neg_ℤ (pos n) ≤ℤ z → z ≤ℤ pos n → unsigned_abs z ≤ n
@@ -239,3 +240,25 @@ Sized-near m w d lo hi a b c =
       high = omega (arith, ints);
       width = ≤ℤ_trans (scaled_le parts gap) (pos_le (omega arith));
     }
+
+-- one step of Horner's scheme
+pub Sized-step : (s d : ℕ) (c z h : Size) (cl ch zl zh l k : ℤ) → zl ≤ℤ zh → l ≤ℤ k → SizedBy c d cl ch → SizedBy z d zl zh → SizedBy h d l k
+    → SizedBy (sum_size c (product_size (2 ^ s) z h)) d (cl +ℤ floor_div (least_product zl zh l k) (2 ^ s)) (ch +ℤ ceil_div (greatest_product zl zh l k) (2 ^ s))
+Sized-step s d c z h cl ch zl zh l k order order' x y w =
+    Sized-add _ _ _ _ _ _ d cl ch _ _ x (Sized-product s _ _ _ _ _ _ d zl zh l k order order' y w)
+
+pub step_ordered : (s : ℕ) (cl ch zl zh l k : ℤ) → cl ≤ℤ ch → (cl +ℤ floor_div (least_product zl zh l k) (2 ^ s)) ≤ℤ (ch +ℤ ceil_div (greatest_product zl zh l k) (2 ^ s))
+step_ordered s cl ch zl zh l k order =
+    let product : floor_div (least_product zl zh l k) (2 ^ s) ≤ℤ ceil_div (greatest_product zl zh l k) (2 ^ s) =
+    floor-le_ceil (least_product zl zh l k) (greatest_product zl zh l k) (2 ^ s) (pow_pos s) (least_of-le_greatest (zl *ℤ l) (zh *ℤ l) (zl *ℤ k) (zh *ℤ k)) in
+    both order product
+  where
+    both : {a b e f : ℤ} → a ≤ℤ b → e ≤ℤ f → (a +ℤ e) ≤ℤ (b +ℤ f)
+    both h k = omega (arith, ints, h, k)
+
+pub Sized-wider : (m a b m' a' b' d : ℕ) (lo hi : ℤ) → m ≤ m' → a ≤ a' → b ≤ b' → Sized m a b d lo hi → Sized m' a' b' d lo hi
+Sized-wider m a b m' a' b' d lo hi h i j z = record {
+  low = ≤ℤ_trans (flip_le (pos_le h)) z.low;
+  high = ≤ℤ_trans z.high (pos_le h);
+  width = ≤ℤ_trans z.width (pos_le (omega (arith, i, mul-le-mul_right d j)));
+}

@@ -64,3 +64,12 @@ up_size n s = record { most = s.most * n; base = s.base * n; per = s.per * n }
 
 abbrev pub sum_size : Size → Size → Size
 sum_size s t = record { most = s.most + t.most; base = s.base + t.base; per = s.per + t.per }
+
+-- an enclosure w units wide of a number whose magnitude is at most m
+abbrev pub near_size : ℕ → ℕ → Size
+near_size m w = record { most = m + w; base = w * parts; per = 0 }
+
+-- c 0 + z * (c 1 + z * (c 2 + ..)) for n numbers c k of the sizes f k, at the scale D
+unfoldable pub horner_size : ℕ → Size → (ℕ → Size) → ℕ → Size
+horner_size D z f zero = record { most = 0; base = 0; per = 0 }
+horner_size D z f (suc n) = sum_size (f 0) (product_size D z (horner_size D z (λ k. f (suc k)) n))

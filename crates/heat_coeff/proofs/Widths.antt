@@ -124,7 +124,7 @@ litre_quotient (pos n) dlo dhi a w least narrow h =
     omega (arith, ints, t, narrow, h)
 litre_quotient (negsuc n) dlo dhi a w least narrow h = omega (arith, ints)
 
-litre_apart : (a b e wf wr : ℕ) (dlo dhi : ℤ) → b ≡ a + e → 9 * 2 ^ 56 ≤ a * 10000 → e * 10 ^ 15 ≤ 9077 * 2 ^ 56 → dlo ≤ℤ dhi → neg_ℤ (pos (1200 * 2 ^ 48)) ≤ℤ dlo → dhi ≤ℤ pos (1200 * 2 ^ 48)
+litre_apart : (a b e wf wr : ℕ) (dlo dhi : ℤ) → b ≡ a + e → 9 * 2 ^ 56 ≤ a * 10000 → e * 10 ^ 15 ≤ 9268 * 2 ^ 56 → dlo ≤ℤ dhi → neg_ℤ (pos (1200 * 2 ^ 48)) ≤ℤ dlo → dhi ≤ℤ pos (1200 * 2 ^ 48)
     → ((dhi -ℤ dlo) *ℤ pos (10 ^ 9)) ≤ℤ pos ((74 + 116 * (wf + wr)) * 2 ^ 48)
     → (pos 15 *ℤ (greatest_ceil (dhi *ℤ pos 256000) (a * 1) (b * 1) -ℤ least_floor (dlo *ℤ pos 256000) (a * 1) (b * 1))) ≤ℤ pos (241 + 2 * (wf + wr))
 litre_apart a b e wf wr dlo dhi wider least close order low high narrow =
@@ -145,17 +145,17 @@ factor_quotient (pos n) dlo dhi a least narrow h =
     omega (arith, ints, t, narrow, h)
 factor_quotient (negsuc n) dlo dhi a least narrow h = omega (arith, ints)
 
-factor_apart : (m a b e : ℕ) (dlo dhi : ℤ) → b ≡ a + e → 0 < m → 9 * 2 ^ 56 ≤ a * 10000 → e * 10 ^ 15 ≤ 77 * 2 ^ 56 → dlo ≤ℤ dhi → neg_ℤ (pos (1200 * 2 ^ 48)) ≤ℤ dlo → dhi ≤ℤ pos (1200 * 2 ^ 48)
+factor_apart : (m a b e : ℕ) (dlo dhi : ℤ) → b ≡ a + e → 0 < m → 9 * 2 ^ 56 ≤ a * 10000 → e * 10 ^ 15 ≤ 268 * 2 ^ 56 → dlo ≤ℤ dhi → neg_ℤ (pos (1200 * 2 ^ 48)) ≤ℤ dlo → dhi ≤ℤ pos (1200 * 2 ^ 48)
     → ((dhi -ℤ dlo) *ℤ pos (10 ^ 9)) ≤ℤ pos (74 * 2 ^ 48)
-    → ((greatest_ceil (dhi *ℤ pos 256000000000000) (a * m) (b * m) -ℤ least_floor (dlo *ℤ pos 256000000000000) (a * m) (b * m) -ℤ pos 2) *ℤ pos m) ≤ℤ pos (2 * 10 ^ 8)
+    → ((greatest_ceil (dhi *ℤ pos 256000000000000) (a * m) (b * m) -ℤ least_floor (dlo *ℤ pos 256000000000000) (a * m) (b * m) -ℤ pos 2) *ℤ pos m) ≤ℤ pos (5 * 10 ^ 8)
 factor_apart m a b e dlo dhi wider m_above least close order low high narrow =
     let far = apart_ends 256000000000000 m a b e dlo dhi wider m_above (omega arith) order low high in
-    let small : (1200 * 2 ^ 48 * 256000000000000) * e ≤ 115000000 * (a * (a + e)) = small_volumes (1200 * 2 ^ 48 * 256000000000000) 115000000 a e least (omega arith) in
+    let small : (1200 * 2 ^ 48 * 256000000000000) * e ≤ 398000000 * (a * (a + e)) = small_volumes (1200 * 2 ^ 48 * 256000000000000) 398000000 a e least (omega arith) in
     let y = (greatest_ceil (dhi *ℤ pos 256000000000000) (a * m) (b * m) -ℤ least_floor (dlo *ℤ pos 256000000000000) (a * m) (b * m) -ℤ pos 2) *ℤ pos m in
-    let short = without_divisor (1200 * 2 ^ 48 * 256000000000000) 115000000 a e y (dhi *ℤ pos 256000000000000 -ℤ dlo *ℤ pos 256000000000000) (omega arith) small far in
-    factor_width (greatest_ceil (dhi *ℤ pos 256000000000000) (a * m) (b * m)) (least_floor (dlo *ℤ pos 256000000000000) (a * m) (b * m)) m (factor_quotient (y -ℤ pos 115000000) dlo dhi a least narrow short)
+    let short = without_divisor (1200 * 2 ^ 48 * 256000000000000) 398000000 a e y (dhi *ℤ pos 256000000000000 -ℤ dlo *ℤ pos 256000000000000) (omega arith) small far in
+    factor_width (greatest_ceil (dhi *ℤ pos 256000000000000) (a * m) (b * m)) (least_floor (dlo *ℤ pos 256000000000000) (a * m) (b * m)) m (factor_quotient (y -ℤ pos 398000000) dlo dhi a least narrow short)
   where
-    factor_width : (hi lo : ℤ) (m : ℕ) → ((hi -ℤ lo -ℤ pos 2) *ℤ pos m -ℤ pos 115000000) ≤ℤ pos 83000000 → ((hi -ℤ lo -ℤ pos 2) *ℤ pos m) ≤ℤ pos (2 * 10 ^ 8)
+    factor_width : (hi lo : ℤ) (m : ℕ) → ((hi -ℤ lo -ℤ pos 2) *ℤ pos m -ℤ pos 398000000) ≤ℤ pos 83000000 → ((hi -ℤ lo -ℤ pos 2) *ℤ pos m) ≤ℤ pos (5 * 10 ^ 8)
     factor_width hi lo m h = omega (arith, ints, h)
 
 -- ---- the ends for the enclosures of the code
@@ -167,25 +167,25 @@ volumes (pos a) (pos b) per order least width =
     let up : a ≤ b = omega (arith, ints, order) in
     (omega (arith, ints, least), omega (arith, ints, width, up), omega (arith, up))
 
-pub litre_ends : (vlo vhi dlo dhi : ℤ) (wf wr : ℕ) → vlo ≤ℤ vhi → pos (9 * 2 ^ 56) ≤ℤ (vlo *ℤ pos 10000) → ((vhi -ℤ vlo) *ℤ pos (10 ^ 15)) ≤ℤ pos (9077 * 2 ^ 56)
+pub litre_ends : (vlo vhi dlo dhi : ℤ) (wf wr : ℕ) → vlo ≤ℤ vhi → pos (9 * 2 ^ 56) ≤ℤ (vlo *ℤ pos 10000) → ((vhi -ℤ vlo) *ℤ pos (10 ^ 15)) ≤ℤ pos (9268 * 2 ^ 56)
     → dlo ≤ℤ dhi → neg_ℤ (pos (1200 * 2 ^ 48)) ≤ℤ dlo → dhi ≤ℤ pos (1200 * 2 ^ 48) → ((dhi -ℤ dlo) *ℤ pos (10 ^ 9)) ≤ℤ pos ((74 + 116 * (wf + wr)) * 2 ^ 48)
     → (pos 15 *ℤ (greatest_ceil (dhi *ℤ pos 256000) (unsigned_abs vlo * 1) (unsigned_abs vhi * 1) -ℤ least_floor (dlo *ℤ pos 256000) (unsigned_abs vlo * 1) (unsigned_abs vhi * 1))) ≤ℤ pos (241 + 2 * (wf + wr))
 litre_ends vlo vhi dlo dhi wf wr rising least close order low high narrow =
-    let v = volumes vlo vhi 9077 rising least close in
+    let v = volumes vlo vhi 9268 rising least close in
     litre_apart (unsigned_abs vlo) (unsigned_abs vhi) _ wf wr dlo dhi v.2 v.0 v.1 order low high narrow
 
 -- at the coarser width
-coarser : (hi lo : ℤ) (m : ℕ) → ((hi -ℤ lo -ℤ pos 2) *ℤ pos m) ≤ℤ pos (2 * 10 ^ 8) → ((hi -ℤ lo -ℤ pos 1000) *ℤ pos m) ≤ℤ pos (10 ^ 10)
+coarser : (hi lo : ℤ) (m : ℕ) → ((hi -ℤ lo -ℤ pos 2) *ℤ pos m) ≤ℤ pos (5 * 10 ^ 8) → ((hi -ℤ lo -ℤ pos 1000) *ℤ pos m) ≤ℤ pos (10 ^ 10)
 coarser hi lo m h =
     let less : ((hi -ℤ lo -ℤ pos 1000) *ℤ pos m) ≤ℤ ((hi -ℤ lo -ℤ pos 2) *ℤ pos m) = mul-le_pos m (omega (arith, ints)) in
     omega (arith, ints, h, less)
 
-pub factor_ends : (m : ℕ) (vlo vhi dlo dhi : ℤ) → 0 < m → vlo ≤ℤ vhi → pos (9 * 2 ^ 56) ≤ℤ (vlo *ℤ pos 10000) → ((vhi -ℤ vlo) *ℤ pos (10 ^ 15)) ≤ℤ pos (77 * 2 ^ 56)
+pub factor_ends : (m : ℕ) (vlo vhi dlo dhi : ℤ) → 0 < m → vlo ≤ℤ vhi → pos (9 * 2 ^ 56) ≤ℤ (vlo *ℤ pos 10000) → ((vhi -ℤ vlo) *ℤ pos (10 ^ 15)) ≤ℤ pos (268 * 2 ^ 56)
     → dlo ≤ℤ dhi → neg_ℤ (pos (1200 * 2 ^ 48)) ≤ℤ dlo → dhi ≤ℤ pos (1200 * 2 ^ 48) → ((dhi -ℤ dlo) *ℤ pos (10 ^ 9)) ≤ℤ pos (74 * 2 ^ 48)
-    → ((((greatest_ceil (dhi *ℤ pos 256000000000000) (unsigned_abs vlo * m) (unsigned_abs vhi * m) -ℤ least_floor (dlo *ℤ pos 256000000000000) (unsigned_abs vlo * m) (unsigned_abs vhi * m) -ℤ pos 2) *ℤ pos m) ≤ℤ pos (2 * 10 ^ 8))
+    → ((((greatest_ceil (dhi *ℤ pos 256000000000000) (unsigned_abs vlo * m) (unsigned_abs vhi * m) -ℤ least_floor (dlo *ℤ pos 256000000000000) (unsigned_abs vlo * m) (unsigned_abs vhi * m) -ℤ pos 2) *ℤ pos m) ≤ℤ pos (5 * 10 ^ 8))
     × (((greatest_ceil (dhi *ℤ pos 256000000000000) (unsigned_abs vlo * m) (unsigned_abs vhi * m) -ℤ least_floor (dlo *ℤ pos 256000000000000) (unsigned_abs vlo * m) (unsigned_abs vhi * m) -ℤ pos 1000) *ℤ pos m) ≤ℤ pos (10 ^ 10)))
 factor_ends m vlo vhi dlo dhi above rising least close order low high narrow =
-    let v = volumes vlo vhi 77 rising least close in
+    let v = volumes vlo vhi 268 rising least close in
     let near = factor_apart m (unsigned_abs vlo) (unsigned_abs vhi) _ dlo dhi v.2 above v.0 v.1 order low high narrow in
     (near, coarser (greatest_ceil (dhi *ℤ pos 256000000000000) (unsigned_abs vlo * m) (unsigned_abs vhi * m)) (least_floor (dlo *ℤ pos 256000000000000) (unsigned_abs vlo * m) (unsigned_abs vhi * m)) m near)
 

@@ -25,7 +25,7 @@ pub struct Factor {
 
 /// The heat coefficient k of EN 1434-1 at these temperatures in microdegrees Celsius, where the flow is
 /// at least 10,000 warmer than the return and at most 180 °C: (h(flow) - h(return)) / (v (flow - return)).
-/// The distance of the ends, less 2, times the difference of the temperatures is at most 2 * 10^8.
+/// The distance of the ends, less 2, times the difference of the temperatures is at most 5 * 10^8.
 pub fn coeff(w: &Water, place: Place, tf_udeg: u32, tr_udeg: u32) -> Factor
     requires apart { tr_udeg + 10000 ≤ tf_udeg }
     requires range { tf_udeg ≤ 180000000 }
@@ -34,7 +34,7 @@ pub fn coeff(w: &Water, place: Place, tf_udeg: u32, tr_udeg: u32) -> Factor
         (microdegrees tf_udeg) (microdegrees tr_udeg)) }
     ensures ordered { result.lo ≤ℤ result.hi }
     ensures width { ((result.hi -ℤ result.lo -ℤ pos 1000) *ℤ pos (tf_udeg - tr_udeg)) ≤ℤ pos (10 ^ 10) }
-    ensures closer { ((result.hi -ℤ result.lo -ℤ pos 2) *ℤ pos (tf_udeg - tr_udeg)) ≤ℤ pos (2 * 10 ^ 8) }
+    ensures closer { ((result.hi -ℤ result.lo -ℤ pos 2) *ℤ pos (tf_udeg - tr_udeg)) ≤ℤ pos (5 * 10 ^ 8) }
 {
     let f = point(tf_udeg);
     let r = point(tr_udeg);

@@ -33,7 +33,7 @@ pub(crate) fn metered_volume(w: &Water, place: Place, f: Span, r: Span) -> Enc<5
         Holds 56 result.lo result.hi (volume w.now.p_kpa (metered_at (place_view place) tf tr)) }
     ensures least { pos (9 * 2 ^ 56) ≤ℤ (result.lo *ℤ pos 10000) }
     ensures width { (d : ℕ) → f.hi - f.lo ≤ d → r.hi - r.lo ≤ d →
-        ((result.hi -ℤ result.lo) *ℤ pos (10 ^ 15)) ≤ℤ pos ((77 + 3 * d) * 2 ^ 56) }
+        ((result.hi -ℤ result.lo) *ℤ pos (10 ^ 15)) ≤ℤ pos ((268 + 3 * d) * 2 ^ 56) }
 {
     match place {
         Place::Flow => w.volume(f),

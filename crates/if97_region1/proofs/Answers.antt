@@ -13,11 +13,11 @@ first_in : (lo hi : ℕ) → lo ≤ hi → SpanHolds lo hi (nanodegrees lo)
 first_in lo hi h = record { low = record { crossed = omega (arith, ints) }; high = record { crossed = omega (arith, ints, h) } }
 
 -- two enclosures of one number overlap
-record Overlap (lo hi L H : ℤ) : Type 0 where
-  low : L ≤ℤ hi
-  high : lo ≤ℤ H
+pub record Overlap (lo hi L H : ℤ) : Type 0 where
+  pub low : L ≤ℤ hi
+  pub high : lo ≤ℤ H
 
-overlap : (lo hi L H : ℤ) (x : Fraction) → Holds 56 lo hi x → Holds 56 L H x → Overlap lo hi L H
+pub overlap : (lo hi L H : ℤ) (x : Fraction) → Holds 56 lo hi x → Holds 56 L H x → Overlap lo hi L H
 overlap lo hi L H x p q = record {
   low = le_of_mul-le_pos (2 ^ 56) (lit< tt) (≤ℚ_trans q.low p.high).crossed;
   high = le_of_mul-le_pos (2 ^ 56) (lit< tt) (≤ℚ_trans p.low q.high).crossed;

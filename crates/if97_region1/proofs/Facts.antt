@@ -1,21 +1,19 @@
 -- What sizes say of ranges and widths.
-use Rattle.std.proofs.Common.{◌≡◌, ℕ, ◌+◌, ◌*◌, ◌^◌, ◌≤◌, arith, lit<, lit≤, refl, ℤ, pos, negsuc, neg_ℤ, ◌+ℤ◌, ◌*ℤ◌, ◌≤ℤ◌}
+use Rattle.std.proofs.Common.{◌≡◌, ℕ, ◌+◌, ◌-◌, ◌*◌, ◌^◌, ◌≤◌, arith, lit<, lit≤, refl, ℤ, pos, neg_ℤ, ◌+ℤ◌, ◌*ℤ◌, ◌≤ℤ◌}
 use Rattle.std.proofs.lemmas.Int.{ints}
 use lib.IntN.{◌-ℤ◌}
 use native.Mathlib.Nat.{mul-le-mul_right}
-use Rattle.number_model.specs.Fraction.{◌*ℚ◌, whole}
-use Rattle.number_model.specs.Enclosure.{Holds}
+use Rattle.number_model.specs.Fraction.{Fraction, ◌*ℚ◌, ◌≈◌, part, times_ℚ}
 use Rattle.number_model.specs.Rounding.{IsWithin, floor_div, ceil_div}
-use Rattle.number_model.proofs.Ints.{≤ℤ_trans, mul-le_pos, le_of_mul-le_pos, recast, as_diff, same_diff, diffs}
-use Rattle.number_model.proofs.Roundings.{floor_div-scale_down, ceil_div-scale_down}
+use Rattle.number_model.proofs.Ints.{≤ℤ_trans, mul-le_pos, le_of_mul-le_pos, recast, as_diff, same_diff, diffs, ring}
+use Rattle.std.proofs.lemmas.Nat.{pow_pos}
+use Rattle.number_model.proofs.Roundings.{floor_div-scale_down, ceil_div-scale_down, floor_div-scale_up, ceil_div-scale_up}
 use Rattle.interval_num.specs.Ends.{ProductsWithin, quotient_floor, quotient_ceil}
-use Rattle.water_model.specs.Decimal.{decimal}
-use Rattle.enclosure_sizes.specs.Size.{Sized, SizedBy, parts}
+use Rattle.enclosure_sizes.specs.Size.{Size, Sized, SizedBy, parts, down_size, up_size}
 use Rattle.enclosure_sizes.proofs.Ranges.{products_within}
-use Rattle.enclosure_sizes.proofs.Sizes.{Sized-near}
-use Rattle.region1_terms.proofs.Coefficients.{coefficient_ends}
+use Rattle.enclosure_sizes.proofs.Sizes.{Sized-down, Sized-up, Sized-wider}
 use Rattle.region1_terms.proofs.Temperatures.{Sized-hull}
-use Rattle.if97_region1.specs.Sizes.{row_13_size, volume_factor_size, heat_factor_size}
+use Rattle.if97_region1.specs.Sizes.{volume_factor_size, heat_factor_size, offset_size}
 
 -- ---- ranges
 within_low : (m a b d : ℕ) (l h : ℤ) → l ≤ℤ h → Sized m a b d l h → IsWithin m l
@@ -45,11 +43,6 @@ width_from a b d m n N s l h w base per =
     up h = omega (arith, ints, h)
 
 -- ---- constants
-pub row_13_sized : (d : ℕ) (lo hi : ℤ) → hi ≤ℤ (lo +ℤ pos 4) → Holds 56 lo hi (decimal (pos 21841717175414) (negsuc 14) *ℚ whole (2 ^ 0)) → SizedBy row_13_size d lo hi
-row_13_sized d lo hi w p =
-    let ends = coefficient_ends (pos 21841717175414) (negsuc 14) lo hi 0 56 refl p in
-    Sized-near _ 4 d lo hi ends.0 ends.1 w
-
 pub volume_factor_sized : (d : ℕ) → SizedBy volume_factor_size d (quotient_floor 56 (pos 639675036) (pos 16530000000)) (quotient_ceil 56 (pos 639675036) (pos 16530000000))
 volume_factor_sized d =
     Sized-hull 639675036 16530000000 639675036 16530000000 0 d volume_factor_size.most 0 1
@@ -57,6 +50,47 @@ volume_factor_sized d =
 
 pub heat_factor_sized : (d : ℕ) → SizedBy heat_factor_size d (quotient_floor 48 (pos 639675036) (pos 1000000)) (quotient_ceil 48 (pos 639675036) (pos 1000000))
 heat_factor_sized d = record { low = omega (arith, ints); high = omega (arith, ints); width = omega (arith, ints) }
+
+pub offset_sized : (d : ℕ) → SizedBy offset_size d (quotient_floor 56 (pos 1222) (pos 1000)) (quotient_ceil 56 (pos 1222) (pos 1000))
+offset_sized d =
+    Sized-hull 1222 1000 1222 1000 0 d offset_size.most 0 1
+    (record { low = lit< tt; high = lit< tt; order = lit≤ tt; apart = omega arith; most = lit≤ tt; above = lit< tt; least = lit≤ tt; slope = lit≤ tt })
+
+-- ---- other scales
+pub coarser : (s t : ℕ) → t ≤ s → (z : Size) (d : ℕ) (lo hi : ℤ) → SizedBy z d lo hi → SizedBy (down_size (2 ^ (s - t)) z) d (floor_div (lo *ℤ pos (2 ^ t)) (2 ^ s)) (ceil_div (hi *ℤ pos (2 ^ t)) (2 ^ s))
+coarser s t h z d lo hi y = rw (floor_div-scale_down s t lo h, ceil_div-scale_down s t hi h) (Sized-down (2 ^ (s - t)) _ _ _ d lo hi (pow_pos (s - t)) y)
+
+pub finer : (s t : ℕ) → s ≤ t → (z : Size) (d : ℕ) (lo hi : ℤ) → SizedBy z d lo hi → SizedBy (up_size (2 ^ (t - s)) z) d (floor_div (lo *ℤ pos (2 ^ t)) (2 ^ s)) (ceil_div (hi *ℤ pos (2 ^ t)) (2 ^ s))
+finer s t h z d lo hi y = rw (floor_div-scale_up s t lo h, ceil_div-scale_up s t hi h) (Sized-up (2 ^ (t - s)) _ _ _ d lo hi y)
+
+-- a quarter, by mantissas that are read at a scale finer by 2^2
+pub same_quarter : (c : Fraction) → times_ℚ c (2 ^ 48) (2 ^ 50) (pow_pos 50) ≈ (c *ℚ part 4 (lit< tt))
+same_quarter c = record { crossed = law c.num c.den }
+  where
+    law : (a : ℤ) (b : ℕ) → (a *ℤ pos (2 ^ 48)) *ℤ pos (b * 4) ≡ (a *ℤ pos 1) *ℤ pos (b * 2 ^ 50)
+    law a b = rw (as_diff a) (simp ring (same_diff _ _ _ _ (omega arith)))
+
+-- ---- one size within another
+pub record Within (s t : Size) : Type 0 where
+  pub most : s.most ≤ t.most
+  pub base : s.base ≤ t.base
+  pub per : s.per ≤ t.per
+
+pub widened : {s t : Size} → Within s t → (d : ℕ) (lo hi : ℤ) → SizedBy s d lo hi → SizedBy t d lo hi
+widened w d lo hi z = Sized-wider _ _ _ _ _ _ d lo hi w.most w.base w.per z
+
+-- the width where the span is one temperature
+pub width_of_point : (m n b : ℕ) (lo hi : ℤ) → Sized m (n * parts) b 0 lo hi → hi ≤ℤ (lo +ℤ pos n)
+width_of_point m n b lo hi z =
+    let w : ((hi -ℤ lo) *ℤ pos parts) ≤ℤ pos (n * parts) = omega (arith, ints, z.width) in
+    omega (arith, ints, w)
+
+-- room at a scale
+pub room : (z : Size) (d : ℕ) (lo hi : ℤ) → z.most ≤ 2 ^ 62 - 1 → SizedBy z d lo hi → (neg_ℤ (pos (2 ^ 62 - 1)) ≤ℤ lo) × (hi ≤ℤ pos (2 ^ 62 - 1))
+room z d lo hi h y = (omega (arith, ints, h, y.low), omega (arith, ints, h, y.high))
+
+pub below : (m n : ℕ) (z : ℤ) → m ≤ n → z ≤ℤ pos m → z ≤ℤ pos n
+below m n z h k = omega (arith, ints, h, k)
 
 pub floor_coarser : (z : ℤ) → floor_div (z *ℤ pos (2 ^ 48)) (2 ^ 56) ≡ floor_div z (2 ^ 8)
 floor_coarser z = floor_div-scale_down 56 48 z (lit≤ tt)

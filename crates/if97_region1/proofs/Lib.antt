@@ -1,3 +1,4 @@
 pub mod Facts
-pub mod Rooms
+pub mod Polynomials
+pub mod Computed
 pub mod Answers

@@ -1,53 +1,112 @@
-ghost use Rattle.std.specs.Prelude.{◌≡◌, ◌-◌};
-ghost use Rattle.number_model.specs.Fraction.{Fraction};
+ghost use Rattle.std.specs.Prelude.{◌≡◌, ℕ, suc, ◌+◌, ◌-◌, ◌*◌, ◌^◌, ◌≤◌, pos, ◌+ℤ◌, ◌≤ℤ◌, slice_get, Some};
+ghost use Rattle.number_model.specs.Fraction.{Fraction, inverse};
 ghost use Rattle.number_model.specs.Enclosure.{Holds, SpanHolds};
-ghost use Rattle.water_model.specs.Water.{x_of, y_of, volume, enthalpy};
-ghost use Rattle.region1_algebra.specs.Forms.{joined_volume, u_of, r_of};
+ghost use Rattle.water_model.specs.Water.{x_of, y_of, volume};
 ghost use Rattle.enclosure_sizes.specs.Size.{SizedBy};
-ghost use Rattle.if97_region1.specs.Sizes.{joined_size, volume_size, enthalpy_size};
+ghost use Rattle.interval_num.specs.declared.enc.Enc.{Enc};
+ghost use Rattle.dec_tables.specs.declared.part.Part.TheVariants.{VolumeUp, VolumeDown};
+ghost use Rattle.region1_algebra.specs.TableForms.{linear_of, constant_of, higher_of, falling_of, table_volume};
+ghost use Rattle.region1_algebra.specs.Forms.{u_of, r_of};
+ghost use Rattle.if97_region1.specs.Collapsed.{HoldsPart, HoldsParts};
+ghost use Rattle.if97_region1.specs.Sizes.{quarter_size, inverse_size, linear_size, constant_width, constant_size, higher_size, falling_size, joined_size, volume_size};
 
-use dec_tables::{Term, enclose};
+use crate::polys::Polys;
+use crate::variables::{inverse, quarter};
+use dec_tables::Poly;
 use interval_num::Enc;
-use region1_sums::{down_sum, heat_sum, up_sum};
 use region1_terms::Variables;
 
-// g_pi / tau = -n13 + D / tau + U y / tau: with y / tau as one ratio, both factors fall or rise
-// together with the temperature, and the product stays narrow
-fn joined(v: &Variables) -> Enc<56>
-    ensures holds { (t : Fraction) →
-        SpanHolds v.now.span.lo v.now.span.hi t →
-        Holds 56 result.lo result.hi (joined_volume (x_of v.now.pressure) (y_of t) (u_of t) (r_of t)) }
+// c1, the coefficient of y, from that of y / 4
+fn linear(up: &Poly<18, 48>) -> Enc<56>
+    requires { (x : Fraction) × HoldsPart 48 VolumeUp x up.now.coef }
+    ensures holds { (x : Fraction) → HoldsPart 48 VolumeUp x up.now.coef → Holds 56 result.lo result.hi (linear_of x) }
+    ensures sized { (d : ℕ) → SizedBy linear_size d result.lo result.hi }
+{
+    let quarter: Enc<50> = up.coef[1].relabel();
+    quarter.scale_to()
+}
+
+// c0 - 1.222 c1
+fn constant(up: &Poly<18, 48>, linear: Enc<56>) -> Enc<56>
+    requires up { (x : Fraction) × HoldsPart 48 VolumeUp x up.now.coef }
+    requires linear { (d : ℕ) → SizedBy linear_size d linear.lo linear.hi }
+    ensures holds { (x : Fraction) → HoldsPart 48 VolumeUp x up.now.coef → Holds 56 linear.lo linear.hi (linear_of x) →
+        Holds 56 result.lo result.hi (constant_of x) }
+    ensures width { result.hi ≤ℤ (result.lo +ℤ pos constant_width) }
+{
+    let first: Enc<56> = up.coef[0].scale_to();
+    first.sub(Enc::of_ratio(1_222, 1_000).mul(linear))
+}
+
+// the coefficients from y^2 on
+fn tail(up: &Poly<18, 48>) -> Poly<16, 48>
+    ensures { (k : ℕ) (e : Enc 48) →
+        slice_get result.coef k ≡ Some e → slice_get up.now.coef (suc (suc k)) ≡ Some e }
+{
+    let mut coef = [Enc::point(0); 16];
+    for k in 0..16 {
+        coef[k] = up.coef[k + 2];
+    }
+    Poly { coef }
+}
+
+// the terms from y^2 on, divided by y
+fn higher(up: &Poly<18, 48>, quarter: Enc<48>) -> Enc<56>
+    requires up { (x : Fraction) × HoldsPart 48 VolumeUp x up.now.coef }
+    requires low { pos 0 ≤ℤ quarter.lo }
+    requires high { quarter.hi ≤ℤ pos (2 ^ 48) }
+    requires sized { (d : ℕ) × SizedBy quarter_size d quarter.lo quarter.hi }
+    ensures holds { (x q : Fraction) → HoldsPart 48 VolumeUp x up.now.coef → Holds 48 quarter.lo quarter.hi q →
+        Holds 56 result.lo result.hi (higher_of x q) }
+    ensures sized { (d : ℕ) → SizedBy quarter_size d quarter.lo quarter.hi → SizedBy higher_size d result.lo result.hi }
+{
+    let fourfold = tail(up).horner(quarter).mul(quarter);
+    let whole: Enc<50> = fourfold.relabel();
+    whole.scale_to()
+}
+
+// what stands at 1 / tau: c0 - 1.222 c1 and the terms in 1 / y
+fn falling(constant: Enc<56>, down: &Poly<42, 40>, inverse: Enc<40>) -> Enc<56>
+    requires down { (x : Fraction) × HoldsPart 40 VolumeDown x down.now.coef }
+    requires low { pos 0 ≤ℤ inverse.lo }
+    requires high { inverse.hi ≤ℤ pos (2 ^ 40) }
+    requires sized { (d : ℕ) × SizedBy inverse_size d inverse.lo inverse.hi }
+    requires constant { (d : ℕ) → SizedBy constant_size d constant.lo constant.hi }
+    ensures holds { (x z : Fraction) → HoldsPart 40 VolumeDown x down.now.coef →
+        Holds 56 constant.lo constant.hi (constant_of x) → Holds 40 inverse.lo inverse.hi z →
+        Holds 56 result.lo result.hi (falling_of x z) }
+    ensures sized { (d : ℕ) → SizedBy inverse_size d inverse.lo inverse.hi → SizedBy falling_size d result.lo result.hi }
+{
+    constant.add(down.horner(inverse).scale_to())
+}
+
+// g_pi / tau = c1 + D / tau + U y / tau: with y / tau as one ratio, both factors fall or rise together
+// with the temperature, and the product stays narrow
+fn joined(t: &Polys, v: &Variables) -> Enc<56>
+    requires low { 1100 ≤ v.now.pressure }
+    requires high { v.now.pressure ≤ 4000 }
+    requires tables { HoldsParts (x_of v.now.pressure) t.now }
+    ensures holds { (c : Fraction) →
+        SpanHolds v.now.span.lo v.now.span.hi c →
+        Holds 56 result.lo result.hi (table_volume (x_of v.now.pressure) (y_of c) (u_of c) (r_of c)) }
     ensures sized { SizedBy joined_size (v.now.span.hi - v.now.span.lo) result.lo result.hi }
 {
-    let first = enclose(
-        &Term {
-            i: 1,
-            j: 1,
-            mantissa: 21_841_717_175_414,
-            exp10: -15,
-        },
-        0,
-    );
-    let down = down_sum(v).mul(v.inverse_tau);
-    let up = up_sum(v).mul(v.y_over_tau);
-    first.add(down).add(up)
+    let linear = linear(&t.volume_up);
+    let down = falling(constant(&t.volume_up, linear), &t.volume_down, inverse(v));
+    let up = higher(&t.volume_up, quarter(v));
+    linear
+        .add(down.mul(v.inverse_tau))
+        .add(up.mul(v.y_over_tau))
 }
 
 /// v = 1386 R / 16530 * g_pi / tau, in m³/kg.
-pub(crate) fn volume_over(v: &Variables) -> Enc<56>
-    ensures holds { (t : Fraction) →
-        SpanHolds v.now.span.lo v.now.span.hi t → Holds 56 result.lo result.hi (volume v.now.pressure t) }
+pub(crate) fn volume_over(t: &Polys, v: &Variables) -> Enc<56>
+    requires low { 1100 ≤ v.now.pressure }
+    requires high { v.now.pressure ≤ 4000 }
+    requires tables { HoldsParts (x_of v.now.pressure) t.now }
+    ensures holds { (c : Fraction) →
+        SpanHolds v.now.span.lo v.now.span.hi c → Holds 56 result.lo result.hi (volume v.now.pressure c) }
     ensures sized { SizedBy volume_size (v.now.span.hi - v.now.span.lo) result.lo result.hi }
 {
-    joined(v).mul(Enc::of_ratio(639_675_036, 16_530_000_000))
-}
-
-/// h = 1386 R * g_tau, in kJ/kg.
-pub(crate) fn enthalpy_over(v: &Variables) -> Enc<48>
-    ensures holds { (t : Fraction) →
-        SpanHolds v.now.span.lo v.now.span.hi t → Holds 48 result.lo result.hi (enthalpy v.now.pressure t) }
-    ensures sized { SizedBy enthalpy_size (v.now.span.hi - v.now.span.lo) result.lo result.hi }
-{
-    let sum: Enc<48> = heat_sum(v).scale_to();
-    sum.mul(Enc::of_ratio(639_675_036, 1_000_000))
+    joined(t, v).mul(Enc::of_ratio(639_675_036, 16_530_000_000))
 }

@@ -1,9 +1,13 @@
 //! Specific volume and specific enthalpy of water after IAPWS-IF97, region 1, in certified enclosures.
 #![tactic(auto)]
 
+mod heat;
 mod joined;
+mod polys;
+mod variables;
 mod water;
 
+pub use polys::Polys;
 pub use water::{Pressure, Water};
 
 #[cfg(test)]

@@ -22,10 +22,27 @@ fn published_values(rt: HostRuntime) -> Result<(), Fail> {
     Ok(())
 }
 
+// At 3 MPa: volume_up[17] = -2 n x 4^17 of row 19 alone, and so on: each exact sum of the published rows in fractions,
+// times the power of two of its table, rounded down and up.
+#[test]
+fn coefficients(rt: HostRuntime) -> Result<(), Fail> {
+    let water = Water::new(3_000).ok().ok_or("3 MPa")?;
+    let polys = water.polys();
+    let volume_up = polys.volume_up.coef[17];
+    assert!(rt; volume_up.lo <= 48_641_487_173 && volume_up.hi >= 48_641_487_174);
+    let volume_down = polys.volume_down.coef[41];
+    assert!(rt; volume_down.lo <= 361_182_671_869_164 && volume_down.hi >= 361_182_671_869_165);
+    let heat_up = polys.heat_up.coef[0];
+    assert!(rt; heat_up.lo <= 911_046_141_776_901 && heat_up.hi >= 911_046_141_776_902);
+    let heat_down = polys.heat_down.coef[42];
+    assert!(rt; heat_down.lo <= 3_201_647_175_631_242 && heat_down.hi >= 3_201_647_175_631_243);
+    Ok(())
+}
+
 #[test]
 fn pressures(rt: HostRuntime) {
-    assert_eq!(rt; Water::new(1_099), Err(Pressure { p_kpa: 1_099 }));
-    assert_eq!(rt; Water::new(4_001), Err(Pressure { p_kpa: 4_001 }));
-    assert_eq!(rt; Water::new(1_100), Ok(Water { p_kpa: 1_100 }));
-    assert_eq!(rt; Water::new(4_000), Ok(Water { p_kpa: 4_000 }));
+    assert_eq!(rt; Water::new(1_099).err(), Some(Pressure { p_kpa: 1_099 }));
+    assert_eq!(rt; Water::new(4_001).err(), Some(Pressure { p_kpa: 4_001 }));
+    assert_eq!(rt; Water::new(1_100).ok().map(|w| w.p_kpa), Some(1_100));
+    assert_eq!(rt; Water::new(4_000).ok().map(|w| w.p_kpa), Some(4_000));
 }

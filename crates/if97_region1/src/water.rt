@@ -1,11 +1,16 @@
-ghost use Rattle.std.specs.Prelude.{◌≡◌, ◌+◌, ◌-◌, ◌*◌, ◌^◌, ◌≤◌, ◌↔◌, IsOk, IfOk, IfErr, pos, neg_ℤ, ◌-ℤ◌, ◌*ℤ◌, ◌≤ℤ◌};
+ghost use Rattle.std.specs.Prelude.{◌≡◌, ◌+◌, ◌-◌, ◌*◌, ◌^◌, ◌≤◌, ◌↔◌, IsOk, IfOk, IfErr, pos, neg_ℤ, ◌+ℤ◌, ◌-ℤ◌, ◌*ℤ◌, ◌≤ℤ◌};
 ghost use Rattle.number_model.specs.Fraction.{Fraction};
 ghost use Rattle.number_model.specs.Enclosure.{Holds, SpanHolds};
-ghost use Rattle.water_model.specs.Water.{volume, enthalpy};
+ghost use Rattle.water_model.specs.Water.{x_of, volume, enthalpy};
+ghost use Rattle.table_model.specs.Tables.{eighth_of};
+ghost use Rattle.if97_region1.specs.Collapsed.{HoldsParts};
 
-use crate::joined::{enthalpy_over, volume_over};
+use crate::heat::enthalpy_over;
+use crate::joined::volume_over;
+use crate::polys::Polys;
+use dec_tables::{Part, collapse, region1_table};
 use interval_num::{Enc, Span};
-use region1_terms::Variables;
+use region1_terms::{Variables, x_eighth_at};
 use thiserror::Error;
 
 /// A pressure outside 1,100 to 4,000 kPa.
@@ -15,12 +20,40 @@ pub struct Pressure {
     pub p_kpa: u32,
 }
 
-/// Water at one pressure, 1,100 to 4,000 kPa.
-#[derive(Clone, Copy, Debug, PartialEq, Eq)]
+/// Water at one pressure, 1,100 to 4,000 kPa, with the tables of coefficients at this pressure.
+#[derive(Drop)]
 pub struct Water {
     pub p_kpa: u32,
+    tables: Polys,
     pub ghost low: { 1100 ≤ p_kpa },
     pub ghost high: { p_kpa ≤ 4000 },
+    pub ghost collapsed: { HoldsParts (x_of p_kpa) tables },
+}
+
+// x / 8 at p kPa, as `collapse` wants it
+fn x_eighth(p: u32) -> Enc<56>
+    requires low { 1100 ≤ p }
+    requires high { p ≤ 4000 }
+    ensures holds { Holds 56 result.lo result.hi (eighth_of (x_of p)) }
+    ensures width { result.hi ≤ℤ (result.lo +ℤ pos 4) }
+{
+    x_eighth_at(p)
+}
+
+// the tables at p kPa
+fn tables_at(p: u32) -> Polys
+    requires low { 1100 ≤ p }
+    requires high { p ≤ 4000 }
+    ensures { HoldsParts (x_of p) result }
+{
+    let rows = region1_table();
+    let x = x_eighth(p);
+    Polys {
+        volume_up: collapse(&rows, Part::VolumeUp, x),
+        volume_down: collapse(&rows, Part::VolumeDown, x),
+        heat_up: collapse(&rows, Part::HeatUp, x),
+        heat_down: collapse(&rows, Part::HeatDown, x),
+    }
 }
 
 impl Water {
@@ -31,14 +64,25 @@ impl Water {
         ensures refused { IfErr result (λ e. e.p_kpa ≡ p_kpa) }
     {
         if (1_100..=4_000).contains(&p_kpa) {
-            Ok(Water { p_kpa })
+            Ok(Water {
+                p_kpa,
+                tables: tables_at(p_kpa),
+            })
         } else {
             Err(Pressure { p_kpa })
         }
     }
 
+    /// The tables of coefficients at this pressure: each coefficient holds its sum over the rows, and is
+    /// as narrow as `collapse` says.
+    pub fn polys(&self) -> &Polys
+        ensures { HoldsParts (x_of self.now.p_kpa) result.now }
+    {
+        &self.tables
+    }
+
     /// The specific volume in m³/kg at each temperature of `s`, which is d <= 3,000 nanodegrees wide.
-    /// It lies between 0.0009 and 0.0014, and its width is at most (77 + 3 d) * 10^-15.
+    /// It lies between 0.0009 and 0.0014, and its width is at most (268 + 3 d) * 10^-15.
     pub fn volume(&self, s: Span) -> Enc<56>
         requires { s.hi - s.lo ≤ 3000 }
         ensures holds { (t : Fraction) →
@@ -48,13 +92,13 @@ impl Water {
         ensures width { ((result.hi -ℤ result.lo) *ℤ pos (10 ^ 15)) ≤ℤ
             pos ((1000 + 3 * (s.hi - s.lo)) * 2 ^ 56) }
         ensures closer { ((result.hi -ℤ result.lo) *ℤ pos (10 ^ 15)) ≤ℤ
-            pos ((77 + 3 * (s.hi - s.lo)) * 2 ^ 56) }
+            pos ((268 + 3 * (s.hi - s.lo)) * 2 ^ 56) }
     {
-        volume_over(&Variables::over(self.p_kpa, s))
+        volume_over(&self.tables, &Variables::over(self.p_kpa, s))
     }
 
     /// The specific enthalpy in kJ/kg at each temperature of `s`, which is d <= 3,000 nanodegrees wide.
-    /// It lies between -200 and 1,000, and its width is at most (37 + 116 d) * 10^-9.
+    /// It lies between -200 and 1,000, and its width is at most (27 + 116 d) * 10^-9.
     pub fn enthalpy(&self, s: Span) -> Enc<48>
         requires { s.hi - s.lo ≤ 3000 }
         ensures holds { (t : Fraction) →
@@ -64,8 +108,8 @@ impl Water {
         ensures width { ((result.hi -ℤ result.lo) *ℤ pos (10 ^ 9)) ≤ℤ
             pos ((1000 + 150 * (s.hi - s.lo)) * 2 ^ 48) }
         ensures closer { ((result.hi -ℤ result.lo) *ℤ pos (10 ^ 9)) ≤ℤ
-            pos ((37 + 116 * (s.hi - s.lo)) * 2 ^ 48) }
+            pos ((27 + 116 * (s.hi - s.lo)) * 2 ^ 48) }
     {
-        enthalpy_over(&Variables::over(self.p_kpa, s))
+        enthalpy_over(&self.tables, &Variables::over(self.p_kpa, s))
     }
 }

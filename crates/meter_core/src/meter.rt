@@ -1,6 +1,6 @@
 //! The state of a meter, and what events do to it.
 
-ghost use Rattle.std.specs.Prelude.{◌≡◌, ◌∷◌, [], ◌<◌, ◌≤◌, pos, OnErr};
+ghost use Rattle.std.specs.Prelude.{◌≡◌, ◌∷◌, [], ℕ, ◌<◌, ◌≤◌, pos, Option, Some, OnErr, OnOk};
 ghost use Rattle.std.specs.Int.{IsInRange};
 ghost use Rattle.metering_model.specs.Events.{Sample, Pulse, Date};
 ghost use Rattle.metering_model.specs.Settings.{Settings};
@@ -9,7 +9,10 @@ ghost use Rattle.billing_memory.specs.Records.{record_view};
 ghost use Rattle.event_script.specs.Views.{event_view, IsEvent};
 ghost use Rattle.meter_config.specs.Views.{settings_of};
 ghost use Rattle.pulse_integrator.specs.Adds.{AreInForce};
+ghost use Rattle.pulse_integrator.specs.Pulses.{unit_of};
+ghost use Rattle.pulse_integrator.proofs.InForce.{AreInForce-prop};
 ghost use Rattle.meter_core.specs.Events.{Takes};
+ghost use Rattle.meter_core.specs.Pulses.{Raises};
 
 use crate::Refused;
 use billing_memory::{Day, MeterRecord};
@@ -21,13 +24,18 @@ use pulse_integrator::Rate;
 /// The most events of a record, 10^18.
 const MAX_EVENTS: u64 = 1_000_000_000_000_000_000;
 
-/// A meter: its configuration, and the record that it keeps.
-#[derive(Debug, PartialEq, Eq, Drop)]
+/// A meter: its configuration, the record that it keeps, and the rate at the samples in force, which is made where
+/// they come into force and not for each pulse.
+#[derive(Drop)]
 pub struct Meter {
     config: Config,
     record: MeterRecord,
+    // Water at the pressure of the configuration.
     water: Water,
+    rate: Rate,
     pub ghost pressure: { water.p_kpa ≡ config.pressure_kpa },
+    pub ghost per_pulse: { rate.per_pulse ≡ config.per_pulse },
+    pub ghost in_force: { AreInForce (settings_of config) record.samples rate.origin } by { AreInForce-prop (settings_of config) record.samples rate.origin },
 }
 
 impl Meter {
@@ -36,16 +44,20 @@ impl Meter {
         ensures config { result.config ≡ c }
         ensures record { result.record ≡ m }
     {
+        let water = Water::new(u32::from(c.pressure_kpa)).unwrap();
+        let rate = rate_at(&c, &water, m.samples);
         Meter {
             config: c,
             record: m,
-            water: Water::new(u32::from(c.pressure_kpa)).unwrap(),
+            water,
+            rate,
         }
     }
 
-    /// Takes an event. A sample replaces the samples in force. Pulses add to the register what they carry
-    /// at the samples in force, and to the faulty pulses where a sample is out of range. A date moves the
-    /// day on, with the entries of the months that it passes.
+    /// Takes an event. A sample replaces the samples in force, and the rate with them. Pulses add to the register
+    /// what they carry at the samples in force, and to the faulty pulses where a sample is out of range: as many
+    /// times what one pulse adds at the kept rate. A date moves the day on, with the entries of the months that it
+    /// passes.
     ///
     /// # Errors
     /// [`Refused::EventsFull`] exactly where the record has 10^18 events. Otherwise
@@ -56,6 +68,7 @@ impl Meter {
         ensures takes { Takes (settings_of self.old.config) (record_view self.old.record) (event_view e.now) (record_view self.new.record) result }
         ensures unchanged { OnErr result (self.new ≡ self.old) }
         ensures config { self.new.config ≡ self.old.config }
+        ensures raises { (n : ℕ) → e.now ≡ Event.Pulse n → OnOk result (Raises n (unit_of self.old.rate) self.old.record self.new.record) }
     {
         if self.record.seq == MAX_EVENTS {
             return Err(Refused::EventsFull {
@@ -64,34 +77,23 @@ impl Meter {
         }
         match *e {
             Event::Sample { rf, rr } => {
+                let rate = rate_at(&self.config, &self.water, Some((rf, rr)));
                 take_samples(&mut self.record, rf, rr);
+                self.rate = rate;
                 Ok(())
             }
-            Event::Pulse { n } => {
-                let rate = self.rate();
-                take_pulses(&mut self.record, &rate, n)
-            }
+            Event::Pulse { n } => take_pulses(&mut self.record, &self.rate, n),
             Event::Date { day } => take_date(&mut self.record, day, self.config.set_month),
         }
     }
 
-    // The rate at the samples in force.
-    fn rate(&self) -> Rate
-        ensures per_pulse { result.per_pulse ≡ self.now.config.per_pulse }
-        ensures in_force { AreInForce (settings_of self.now.config) self.now.record.samples result.origin }
+    /// The rate at the samples in force: made from the configuration and these samples, or that of no samples.
+    pub fn rate(&self) -> &Rate
+        ensures kept { result.now ≡ self.now.rate }
+        ensures per_pulse { result.now.per_pulse ≡ self.now.config.per_pulse }
+        ensures in_force { AreInForce (settings_of self.now.config) self.now.record.samples result.now.origin }
     {
-        let config = &self.config;
-        match self.record.samples {
-            None => Rate::none(config.per_pulse),
-            Some((rf, rr)) => Rate::of(
-                &self.water,
-                &config.pair(),
-                config.place,
-                config.per_pulse,
-                rf,
-                rr,
-            ),
-        }
+        &self.rate
     }
 
     /// The record.
@@ -109,10 +111,30 @@ impl Meter {
     }
 }
 
+// The rate while these samples are in force.
+fn rate_at(config: &Config, water: &Water, samples: Option<(u32, u32)>) -> Rate
+    requires { water.now.p_kpa ≡ config.now.pressure_kpa }
+    ensures per_pulse { result.per_pulse ≡ config.now.per_pulse }
+    ensures in_force { AreInForce (settings_of config.now) samples result.origin }
+{
+    match samples {
+        None => Rate::none(config.per_pulse),
+        Some((rf, rr)) => Rate::of(
+            water,
+            &config.pair(),
+            config.place,
+            config.per_pulse,
+            rf,
+            rr,
+        ),
+    }
+}
+
 // Replaces the samples in force.
 fn take_samples(m: &mut MeterRecord, rf: u32, rr: u32)
     requires { m.old.seq < 1000000000000000000 }
-    ensures { (c : Settings) → c.kept_months ≡ 24 →
+    ensures samples { m.new.samples ≡ Some (rf, rr) }
+    ensures stands { (c : Settings) → c.kept_months ≡ 24 →
         StandsFor c (record_view m.old) (record { event = Sample rf rr; energy_mj = pos 0; bound_mj = 0 } ∷ [])
         (record_view m.new) }
 {
@@ -128,6 +150,8 @@ fn take_pulses(m: &mut MeterRecord, rate: &Rate, n: u64) -> Result<(), Refused>
     ensures takes { (c : Settings) → c.kept_months ≡ 24 → c.litres_per_pulse ≡ rate.now.per_pulse →
         AreInForce c m.old.samples rate.now.origin →
         Takes c (record_view m.old) (Pulse n) (record_view m.new) result }
+    ensures raises { OnOk result (Raises n (unit_of rate.now) m.old m.new) }
+    ensures samples { m.new.samples ≡ m.old.samples }
     ensures unchanged { OnErr result (m.new ≡ m.old) }
 {
     let step = rate.add(n);
@@ -147,6 +171,7 @@ fn take_date(m: &mut MeterRecord, day: Day, set_month: u8) -> Result<(), Refused
     requires month { IsInRange 1 12 set_month }
     ensures takes { (c : Settings) → c.kept_months ≡ 24 → c.set_month ≡ set_month →
         Takes c (record_view m.old) (Date day.number) (record_view m.new) result }
+    ensures samples { m.new.samples ≡ m.old.samples }
     ensures unchanged { OnErr result (m.new ≡ m.old) }
 {
     match m.move_to(day, set_month) {

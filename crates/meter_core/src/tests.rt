@@ -41,6 +41,9 @@ fn events_are_taken(rt: HostRuntime) -> Result<(), Fail> {
     assert_eq!(rt; record.register.pulses, 7);
     // 40 litres at 41,303,818.149 mJ
     assert!(rt; (record.register.energy_mj - 1_652_152_726).abs() <= 2_500);
+    // 10 of them
+    let pulse_mj = meter.rate().unit().e_mj;
+    assert!(rt; 413_037_181 <= pulse_mj && pulse_mj <= 413_039_181);
     assert_eq!(rt; record.months.len(), 1);
     assert_eq!(rt; meter.config(), &Config::standard());
     Ok(())

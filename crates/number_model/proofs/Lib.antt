@@ -1,5 +1,6 @@
 pub mod Ints
 pub mod Same
+pub mod Laws
 pub mod Roundings
 pub mod Order
 pub mod Powers

@@ -20,7 +20,9 @@ use Rattle.sensor_pair.specs.Place.{place_view}
 use Rattle.energy_register.specs.declared.Step.{Step}
 use Rattle.pulse_integrator.specs.declared.origin.Origin.{Origin}
 use Rattle.pulse_integrator.specs.declared.per_litre.PerLitre.{PerLitre}
+use Rattle.pulse_integrator.specs.declared.rate.Rate.{Rate}
 use Rattle.pulse_integrator.specs.Adds.{AreInForce, litre_by, FitsLitre, AddsLitre, AddsPulses}
+use Rattle.pulse_integrator.specs.Pulses.{times, unit_of}
 
 -- of x litres as of one
 times_low : (x d : ℕ) (z n : ℤ) → (z *ℤ pos d) ≤ℤ (n *ℤ pos 1) → ((pos x *ℤ z) *ℤ pos (1 * d)) ≤ℤ ((pos x *ℤ n) *ℤ pos 1)
@@ -104,7 +106,7 @@ fits_litre c rf rr lo hi l h = record {
 
 -- the same in the words of a meter whose samples are those of the origin
 here : (c : Settings) (samples : Option (ℕ × ℕ)) (o : Origin) (lo hi : ℤ) (l : PerLitre) → AreInForce c samples (Some o)
-    → IsEnclosed (element o.pair.flow) (element o.pair.ret) o.rf o.rr o.water.p_kpa (place_view o.place) lo hi l
+    → IsEnclosed (element o.pair.flow) (element o.pair.ret) o.rf o.rr o.p_kpa (place_view o.place) lo hi l
     → IsEnclosed c.flow c.ret o.rf o.rr c.pressure_kpa c.place lo hi l
 here c samples o lo hi l h e = rw (h.1, h.2, h.3, h.4) e
 
@@ -118,7 +120,7 @@ same_some {A} {x} {y} h = ap (value_or x) h
 
 pub counted_fits : (c : Settings) (samples : Option (ℕ × ℕ)) (o : Origin) (lo hi : ℤ) (l : PerLitre) (k : Counted) → AreInForce c samples (Some o)
     → IsCountingPair (element o.pair.flow) (element o.pair.ret) o.rf o.rr
-    → IsEnclosed (element o.pair.flow) (element o.pair.ret) o.rf o.rr o.water.p_kpa (place_view o.place) lo hi l
+    → IsEnclosed (element o.pair.flow) (element o.pair.ret) o.rf o.rr o.p_kpa (place_view o.place) lo hi l
     → litre_by c samples ≡ Some k → FitsLitre c k l
 counted_fits c samples o lo hi l k h counting e is =
     let pair : IsCountingPair c.flow c.ret o.rf o.rr = rw (h.3, h.4) counting in
@@ -183,7 +185,7 @@ some_none h = absurd cc
 -- what a litre adds where the samples count
 pub adds_counted : (o : Origin) (lo hi : ℤ) (l : PerLitre)
     → IsCountingPair (element o.pair.flow) (element o.pair.ret) o.rf o.rr
-    → IsEnclosed (element o.pair.flow) (element o.pair.ret) o.rf o.rr o.water.p_kpa (place_view o.place) lo hi l
+    → IsEnclosed (element o.pair.flow) (element o.pair.ret) o.rf o.rr o.p_kpa (place_view o.place) lo hi l
     → IsWithin 2000000000 l.e_mj → l.faulty ≡ false → AddsLitre (Some o) l
 adds_counted o lo hi l counting e size sound = record {
   counted = λ c samples k h is. counted_fits c samples o lo hi l k h counting e is;
@@ -324,3 +326,23 @@ adds_pulses per_pulse origin l n s litre e b faulty = record {
       by_range true false h = refl
       by_range false true h = refl
       by_range false false h = absurd (omega (arith, h))
+
+same_step : (e e' : ℤ) (b b' f f' : ℕ) → e ≡ e' → b ≡ b' → f ≡ f' → ◌≡◌ {A = Step} (record { e_mj = e; b_mj = b; faulty = f }) (record { e_mj = e'; b_mj = b'; faulty = f' })
+same_step e e' b b' f f' p q r = rw (p, q, r) refl
+
+-- the step of n pulses is n times that of one
+pub is_times : (r : Rate) (n : ℕ) (s : Step) → s.e_mj ≡ pos (n * r.per_pulse) *ℤ r.litre.e_mj → s.b_mj ≡ (n * r.per_pulse) * r.litre.b_mj → s.faulty ≡ cond r.litre.faulty n 0
+    → s ≡ times n (unit_of r)
+is_times r n s e b faulty = same_step s.e_mj _ s.b_mj _ s.faulty _ (e ∙ energy r.per_pulse r.litre.e_mj) (b ∙ bound r.per_pulse r.litre.b_mj) (faulty ∙ each r.litre.faulty) where
+  energy : (x : ℕ) (z : ℤ) → pos (n * x) *ℤ z ≡ pos n *ℤ (pos x *ℤ z)
+  energy x z = rw (as_diff z) (simp ring (same_diff _ _ _ _ (omega arith)))
+
+  bound : (x b : ℕ) → (n * x) * b ≡ n * (x * b)
+  bound x b = omega arith
+
+  each : (f : Bool) → cond f n 0 ≡ n * cond f 1 0
+  each true = omega arith
+  each false = omega arith
+
+pub times_one : (s : Step) → times 1 s ≡ s
+times_one s = same_step (pos 1 *ℤ s.e_mj) s.e_mj (1 * s.b_mj) s.b_mj (1 * s.faulty) s.faulty (once s.e_mj) (omega arith) (omega arith)

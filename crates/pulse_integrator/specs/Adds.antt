@@ -16,7 +16,7 @@ use Rattle.pulse_integrator.specs.declared.per_litre.PerLitre.{PerLitre}
 abbrev pub AreInForce : Settings → Option (ℕ × ℕ) → Option Origin → Type 0
 AreInForce c samples None = samples ≡ None
 AreInForce c samples (Some o) =
-    (samples ≡ Some (o.rf, o.rr)) × (c.pressure_kpa ≡ o.water.p_kpa) × (c.place ≡ place_view o.place)
+    (samples ≡ Some (o.rf, o.rr)) × (c.pressure_kpa ≡ o.p_kpa) × (c.place ≡ place_view o.place)
     × (c.flow ≡ element o.pair.flow) × (c.ret ≡ element o.pair.ret)
 
 -- The step of n pulses at these samples: where they count, the energy and its bound fit closely, else both are 0, and

@@ -24,6 +24,8 @@ pub struct Rate {
 }
 
 impl Rate {
+    ghost use Rattle.pulse_integrator.specs.Pulses.{times, unit_of};
+
     /// The rate while no samples are in force, where a pulse stands for `per_pulse` litres: 1, 10, 100
     /// or 1000. It adds nothing.
     pub fn none(per_pulse: u16) -> Rate
@@ -43,10 +45,10 @@ impl Rate {
     pub fn of(w: &Water, pair: &Pair, place: Place, per_pulse: u16, rf: u32, rr: u32) -> Rate
         requires { IsTrue (is_pulse per_pulse) }
         ensures per_pulse { result.per_pulse ≡ per_pulse }
-        ensures origin { result.origin ≡ Some (record { water = w.now; pair = pair.now; place = place; rf = rf; rr = rr }) }
+        ensures origin { result.origin ≡ Some (record { p_kpa = w.now.p_kpa; pair = pair.now; place = place; rf = rf; rr = rr }) }
     {
         let origin = Origin {
-            water: *w,
+            p_kpa: w.p_kpa,
             pair: *pair,
             place,
             rf,
@@ -55,17 +57,26 @@ impl Rate {
         Rate {
             per_pulse,
             origin: Some(origin),
-            litre: origin.litre(),
+            litre: origin.litre(w),
         }
+    }
+
+    /// What one pulse adds.
+    pub fn unit(&self) -> Step
+        ensures step { result ≡ unit_of self.now }
+        ensures adds { AddsPulses self.now.per_pulse self.now.origin 1 result }
+    {
+        self.add(1)
     }
 
     /// What `n` pulses add, 1 to 10^15: the energy and a bound of its error, which hold the exact energy
     /// for all temperatures that the samples stand for, with 1,200 mJ a litre left in the bound and hardly
-    /// more, and how many of the pulses are faulty.
+    /// more, and how many of the pulses are faulty. Each is `n` times what one pulse adds.
     pub fn add(&self, n: u64) -> Step
         requires some { 1 ≤ n }
         requires most { n ≤ 1000000000000000 }
-        ensures { AddsPulses self.now.per_pulse self.now.origin n result }
+        ensures adds { AddsPulses self.now.per_pulse self.now.origin n result }
+        ensures times { result ≡ times n (unit_of self.now) }
     {
         let litres = n * u64::from(self.per_pulse);
         Step {

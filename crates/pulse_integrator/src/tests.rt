@@ -14,10 +14,13 @@ fn rate(rf: u32, rr: u32) -> Result<Rate, Fail> {
     Ok(Rate::of(&water, &pair, Place::Return, 10, rf, rr))
 }
 
-// 1,000 litres from 60 to 50 °C, metered in the return at 1,600 kPa, carry 41,303,818,149 mJ
+// 1,000 litres from 60 to 50 °C, metered in the return at 1,600 kPa, carry 41,303,818,149 mJ, a pulse of 10 litres a
+// hundredth of it
 #[test]
 fn pulses_carry_energy(rt: HostRuntime) -> Result<(), Fail> {
-    let step = rate(616_209_500, 596_985_625)?.add(100);
+    let warm = rate(616_209_500, 596_985_625)?;
+    assert!(rt; (warm.unit().e_mj - 413_038_181).abs() <= 1_000);
+    let step = warm.add(100);
     assert_eq!(rt; step.faulty, 0);
     assert!(rt; step.b_mj <= 1_500_000);
     let left = (step.b_mj as i128) - 1_200_000;

@@ -10,8 +10,9 @@ use Rattle.water_model.specs.Region1.{row}
 use Rattle.water_model.specs.Water.{sum_over, pi_term, kelvin, tau_of, x_of, y_of, gas_constant, g_pi, g_tau, volume, enthalpy}
 use Rattle.region1_algebra.specs.Terms.{value_of, pi_derivative_of, pi_derivative_over_y_of}
 use Rattle.region1_algebra.specs.Forms.{single_down, volume_up, joined_pair, row_13, joined_volume, joined_heat, volume_factor, heat_factor, u_of, r_of}
-use Rattle.region1_algebra.proofs.Laws.{add_zero, add_comm, add_assoc, distrib_right, gather, undo}
-use Rattle.region1_algebra.proofs.Splits.{neg_times, pi_sum, tau_sum}
+use Rattle.number_model.proofs.Laws.{add_zero, add_comm, add_assoc, distrib_right, gather, undo}
+use Rattle.water_model.proofs.Decimals.{neg_times}
+use Rattle.region1_algebra.proofs.Splits.{pi_sum, tau_sum}
 
 -- ---- tau * u = 1
 unit_at : (num : ℤ) (den : ℕ) (above : 0 < den) (h : 0 < 1386) → pos 1 ≤ℤ num
@@ -21,7 +22,7 @@ unit_at (pos (suc n)) den above h p = record { crossed = ap pos (omega arith) }
 unit_at (negsuc n) den above h p = absurd (omega (arith, ints, p))
 
 -- y * u + 1.222 * u = 1
-unit : (t : Fraction) → pos 1 ≤ℤ (kelvin t).num → (r_of t +ℚ decimal (pos 1222) (minus 3) *ℚ u_of t) ≈ whole 1
+pub unit : (t : Fraction) → pos 1 ≤ℤ (kelvin t).num → (r_of t +ℚ decimal (pos 1222) (minus 3) *ℚ u_of t) ≈ whole 1
 unit t p = same_trans (undo (tau_of t) (decimal (pos 1222) (minus 3)) (u_of t)) (unit_at (kelvin t).num (kelvin t).den (kelvin t).positive (lit< tt) p)
 
 -- ---- the pair of rows 12 and 13
@@ -66,7 +67,7 @@ module _ (x y u : Fraction) where
   split_12 = record { crossed = refl }
 
 -- (k12 + k13 y) u = kj u + k13, where k12 = kj + c k13 and y u + c u = 1
-pair_joined : (k12 k13 kj c y u : Fraction) → k12 ≈ (kj +ℚ c *ℚ k13) → (y *ℚ u +ℚ c *ℚ u) ≈ whole 1
+pub pair_joined : (k12 k13 kj c y u : Fraction) → k12 ≈ (kj +ℚ c *ℚ k13) → (y *ℚ u +ℚ c *ℚ u) ≈ whole 1
     → ((k12 +ℚ k13 *ℚ y) *ℚ u) ≈ (kj *ℚ u +ℚ k13)
 pair_joined k12 k13 kj c y u split one =
     let first : (k12 *ℚ u) ≈ (kj *ℚ u +ℚ k13 *ℚ (c *ℚ u)) =
@@ -96,7 +97,7 @@ joined_sum x y u one =
     (same_trans (same_sym (distrib_right kj downs u)) (same_mul (same_add (same_sym (pair_value x y u)) (same_refl downs)) (same_refl u)))) (same_refl (ups *ℚ (y *ℚ u)))))))
 
 -- R K g / 16530 = (1386 R / 16530) (g (K / 1386))
-regroup : (k g : Fraction) → (gas_constant *ℚ k *ℚ g /ℚ whole 16530) ≈ (volume_factor *ℚ (g *ℚ (k *ℚ part 1386 (lit< tt))))
+pub regroup : (k g : Fraction) → (gas_constant *ℚ k *ℚ g /ℚ whole 16530) ≈ (volume_factor *ℚ (g *ℚ (k *ℚ part 1386 (lit< tt))))
 regroup k g = record { crossed = law k.num g.num k.den g.den }
   where
     law : (a e : ℤ) (b d : ℕ) → (((pos 461526 *ℤ a) *ℤ e) *ℤ pos 1) *ℤ pos (16530000000 * (d * (b * 1386))) ≡ (pos 639675036 *ℤ (e *ℤ (a *ℤ pos 1))) *ℤ pos (((1000000 * b) * d) * (1 * 16530))
@@ -108,7 +109,7 @@ volume_joined p t above =
     same_sym (same_trans (regroup (kelvin t) (g_pi (x_of p) (y_of t)))
     (same_mul (same_refl volume_factor) (joined_sum (x_of p) (y_of t) (u_of t) (unit t above))))
 
-heat_factor_is : (g : Fraction) → (gas_constant *ℚ whole 1386 *ℚ g) ≈ (heat_factor *ℚ g)
+pub heat_factor_is : (g : Fraction) → (gas_constant *ℚ whole 1386 *ℚ g) ≈ (heat_factor *ℚ g)
 heat_factor_is g = record { crossed = law g.num g.den }
   where
     law : (e : ℤ) (d : ℕ) → (pos (461526 * 1386) *ℤ e) *ℤ pos (1000000 * d) ≡ (pos 639675036 *ℤ e) *ℤ pos ((1000000 * 1) * d)

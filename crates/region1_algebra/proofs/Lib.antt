@@ -1,3 +1,5 @@
-pub mod Laws
+pub mod Series
+pub mod Tables
 pub mod Splits
 pub mod Joined
+pub mod TableForms

@@ -1,39 +1,19 @@
 -- The sum over the published rows, split into terms of two kinds and the pair of rows 12 and 13.
-use Rattle.std.proofs.Common.{◌≡◌, ℕ, suc, ◌-◌, ◌*◌, ◌^◌, refl, arith, ℤ, pos, negsuc, ◌*ℤ◌, neg_ℤ, List, [], ◌∷◌}
+use Rattle.std.proofs.Common.{◌≡◌, ℕ, suc, ◌-◌, refl, ℤ, pos, ◌*ℤ◌, neg_ℤ, List, [], ◌∷◌}
 use lib.IntN.{◌-ℤ◌}
 use Rattle.number_model.specs.Fraction.{Fraction, ◌+ℚ◌, ◌*ℚ◌, neg_ℚ, ◌≈◌, power, whole}
-use Rattle.number_model.proofs.Ints.{as_diff, same_diff, ring}
 use Rattle.number_model.proofs.Same.{same_refl, same_sym, same_trans, same_mul, same_add, same_mul_assoc, same_mul_comm}
 use Rattle.water_model.specs.Decimal.{decimal, integer, minus, whole_power}
 use Rattle.water_model.specs.Region1.{Row, row, region1}
+use Rattle.water_model.proofs.Decimals.{neg_times, times_integer}
 use Rattle.water_model.specs.Water.{sum_over, coefficient, pi_term, tau_term}
 use Rattle.dec_tables.specs.Coefficients.{term_of}
 use Rattle.dec_tables.specs.declared.table.Term.{Term}
 use Rattle.region1_algebra.specs.Terms.{value_of, pi_derivative_of, pi_derivative_over_y_of, tau_derivative_of}
 use Rattle.region1_algebra.specs.Forms.{single_down, volume_up, heat}
-use Rattle.region1_algebra.proofs.Laws.{zero_mul, zero_add, add_zero, distrib_right, add_down, add_up, add_rest}
+use Rattle.number_model.proofs.Laws.{zero_mul, zero_add, add_zero, distrib_right, add_down, add_up, add_rest}
 
 -- ---- one row
-pub neg_times : (m e : ℤ) (i : ℕ) → (neg_ℚ (decimal m e) *ℚ whole i) ≈ decimal (neg_ℤ (pos i *ℤ m)) e
-neg_times m (pos e) i = record { crossed = law m (10 ^ e) i }
-  where
-    law : (m : ℤ) (d i : ℕ) → (neg_ℤ (m *ℤ pos d) *ℤ pos i) *ℤ pos 1 ≡ (neg_ℤ (pos i *ℤ m) *ℤ pos d) *ℤ pos (1 * 1)
-    law m d i = rw (as_diff m) (simp ring (same_diff _ _ _ _ (omega arith)))
-neg_times m (negsuc e) i = record { crossed = law m (10 ^ suc e) i }
-  where
-    law : (m : ℤ) (d i : ℕ) → (neg_ℤ m *ℤ pos i) *ℤ pos d ≡ neg_ℤ (pos i *ℤ m) *ℤ pos (d * 1)
-    law m d i = rw (as_diff m) (simp ring (same_diff _ _ _ _ (omega arith)))
-
-pub times_integer : (m e j : ℤ) → (decimal m e *ℚ integer j) ≈ decimal (j *ℤ m) e
-times_integer m (pos e) j = record { crossed = law m j (10 ^ e) }
-  where
-    law : (m j : ℤ) (d : ℕ) → ((m *ℤ pos d) *ℤ j) *ℤ pos 1 ≡ ((j *ℤ m) *ℤ pos d) *ℤ pos (1 * 1)
-    law m j d = rw (as_diff m, as_diff j) (simp ring (same_diff _ _ _ _ (omega arith)))
-times_integer m (negsuc e) j = record { crossed = law m j (10 ^ suc e) }
-  where
-    law : (m j : ℤ) (d : ℕ) → (m *ℤ j) *ℤ pos d ≡ (j *ℤ m) *ℤ pos (d * 1)
-    law m j d = rw (as_diff m, as_diff j) (simp ring (same_diff _ _ _ _ (omega arith)))
-
 times_zero : (u : Fraction) → (u *ℚ whole 0) ≈ whole 0
 times_zero u = same_trans (same_mul_comm u (whole 0)) (zero_mul u)
 

@@ -18,7 +18,7 @@ use Rattle.region1_terms.proofs.Temperatures.{u_holds, r_holds, y_holds, z_holds
 use Rattle.region1_ranges.proofs.Ends.{Ends, Between, Between-fraction, Between-plus, Between-times, Between-sum, of_fraction, plus, times, raised, y_ends, term_ends, sum_ends}
 
 -- ---- the variables from lo to hi nanodegrees
-x_ends : Ends
+unfoldable pub x_ends : Ends
 x_ends = record { lo = quotient_floor 56 (pos 113363) (pos 132240); hi = quotient_ceil 56 (pos 116263) (pos 132240) }
 
 u_ends : ℕ → ℕ → Ends
@@ -40,7 +40,7 @@ widen_low l m b a h k = ≤ℤ_trans (mul-le_pos b h) k
 widen_high : (l m : ℤ) (b : ℕ) (a : ℤ) → l ≤ℤ m → a ≤ℤ (l *ℤ pos b) → a ≤ℤ (m *ℤ pos b)
 widen_high l m b a h k = ≤ℤ_trans k (mul-le_pos b h)
 
-Between-wider : (e : Ends) (l h : ℤ) (x : Fraction) → l ≤ℤ e.lo → e.hi ≤ℤ h → Between e x → Between (record { lo = l; hi = h }) x
+pub Between-wider : (e : Ends) (l h : ℤ) (x : Fraction) → l ≤ℤ e.lo → e.hi ≤ℤ h → Between e x → Between (record { lo = l; hi = h }) x
 Between-wider e l h x low high p = record {
   holds = record {
     low = record { crossed = widen_low e.lo l x.den _ low p.holds.low.crossed };
@@ -48,7 +48,7 @@ Between-wider e l h x low high p = record {
   };
 }
 
-le_from : (a b : ℤ) → le_z a b ≡ true → a ≤ℤ b
+pub le_from : (a b : ℤ) → le_z a b ≡ true → a ≤ℤ b
 le_from a b h = grind (arith, ints)
 
 pub kelvin_above : (lo hi : ℕ) (t : Fraction) → SpanHolds lo hi t → pos 1 ≤ℤ (kelvin t).num
@@ -74,7 +74,7 @@ unfolding volume_ends times plus of_fraction sum_ends term_ends y_ends raised x_
 volume_most = refl
 
 module _ (p : ℕ) (low : 1100 ≤ p) (high : p ≤ 4000) where
-  x_between : Between x_ends (x_of p *ℚ part 8 (lit< tt))
+  pub x_between : Between x_ends (x_of p *ℚ part 8 (lit< tt))
   unfolding x_ends
   x_between = record { holds = x_within p low high }
 

@@ -12,7 +12,7 @@ use Rattle.interval_num.specs.declared.enc.Enc.{Enc}
 use Rattle.water_model.specs.Water.{x_of, y_of, sum_over}
 use Rattle.dec_tables.specs.declared.table.Term.{Term}
 use Rattle.region1_algebra.specs.Terms.{value_of}
-use Rattle.region1_algebra.proofs.Laws.{add_assoc, add_zero, zero_add}
+use Rattle.number_model.proofs.Laws.{add_assoc, add_zero, zero_add}
 use Rattle.enclosure_sizes.specs.Size.{Sized, SizedBy}
 use Rattle.enclosure_sizes.proofs.Sizes.{Sized-add}
 use Rattle.region1_terms.specs.Monomial.{Evaluates, monomial_size}

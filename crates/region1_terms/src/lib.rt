@@ -5,4 +5,4 @@ mod monomial;
 mod powers;
 mod variables;
 
-pub use variables::Variables;
+pub use variables::{Variables, x_eighth_at};

@@ -61,8 +61,8 @@ fn nanokelvin(t: u64) -> i128
     273_150_000_000 + i128::from(t)
 }
 
-// x / 8 at p kPa
-fn x_eighth_at(p: u32) -> Enc<56>
+/// x / 8 at `p` kPa, 1,100 to 4,000.
+pub fn x_eighth_at(p: u32) -> Enc<56>
     requires low { 1100 ≤ p }
     requires high { p ≤ 4000 }
     ensures lo { result.lo ≡ quotient_floor 56 (pos (117363 - p)) (pos 132240) }

@@ -13,9 +13,9 @@ use Rattle.platinum_model.specs.Pair.{IsCountingPair}
 use Rattle.platinum_model.proofs.Cells.{IsSteep}
 use Rattle.pt_curve.specs.Curve.{element}
 use Rattle.pt_curve.specs.declared.curve.Curve.{Curve}
-use Rattle.pt_curve.proofs.NominalCurve.{nominal-steep}
+use Rattle.platinum_model.proofs.Fitting.{fitting-steep}
 use Rattle.water_model.specs.Water.{volume, enthalpy, sum_over}
-use Rattle.region1_algebra.proofs.Laws.{add_zero}
+use Rattle.number_model.proofs.Laws.{add_zero}
 use Rattle.region1_ranges.proofs.Within.{volume_everywhere}
 use Rattle.heat_model.specs.Heat.{Place, Flow, Return, metered_at, litre_energy}
 use Rattle.metering_model.specs.Events.{Event, Sample, Pulse, Date, Kept, Placed, placed, placed_after}
@@ -60,7 +60,7 @@ quotient_above x y p q = record { crossed = law x.num y.num y.den (1 * x.den) y.
     law (pos (suc n)) (negsuc m) d k above p q = absurd (omega (arith, ints, q))
 
 curve_steep : (c : Curve) → IsSteep (element c)
-curve_steep c = nominal-steep c.r0_uohm c.nominal
+curve_steep c = fitting-steep (element c) c.fit
 
 module _ (c : Settings) (m : MetersRising c) where
   litre_above : (rf rr : ℕ) (t : Temps) → IsCountingPair c.flow c.ret rf rr → IsInCell c.flow rf t.flow → IsInCell c.ret rr t.ret → whole 0 <ℚ litre_energy c.pressure_kpa c.place t.flow t.ret

@@ -13,7 +13,7 @@ use Rattle.dec_tables.specs.declared.table.Term.{Term}
 use Rattle.dec_tables.specs.Coefficients.{coefficient_of}
 use Rattle.region1_algebra.specs.Terms.{value_of, tau_derivative_of}
 use Rattle.region1_algebra.specs.Forms.{heat, joined_heat}
-use Rattle.region1_algebra.proofs.Laws.{add_assoc, add_zero, zero_add}
+use Rattle.number_model.proofs.Laws.{add_assoc, add_zero, zero_add}
 use Rattle.region1_terms.proofs.Temperatures.{ratio}
 use Rattle.region1_sums.specs.Totals.{low_sum, high_sum}
 use Rattle.region1_sums.proofs.Each.{EvaluatesEach}

@@ -12,7 +12,7 @@ use Rattle.water_model.specs.Decimal.{decimal, integer, whole_power}
 use Rattle.dec_tables.specs.declared.table.Term.{Term}
 use Rattle.dec_tables.specs.Coefficients.{coefficient_of}
 use Rattle.region1_algebra.specs.Terms.{value_of, tau_derivative_of}
-use Rattle.region1_algebra.proofs.Splits.{times_integer}
+use Rattle.water_model.proofs.Decimals.{times_integer}
 use Rattle.region1_terms.proofs.Temperatures.{ratio}
 use Rattle.slope_cert.specs.Curvature.{curvature_of}
 use Rattle.slope_cert.proofs.Order.{Quotient, Quotient-same, Quotient-scaled}

@@ -14,14 +14,14 @@ returns-in-Sample-clause-takes c =
     let old = c.args.self.now in
     let settings = settings_of old.config in
     subst (λ e. (event_fault (record_view old.record) (event_view e) ≡ None) × TakesEvent settings (record_view old.record) (event_view e) (record_view c.take_samples.new.m)) (sym c.in-Sample.is)
-    (samples_taken settings old.record (record_view c.take_samples.new.m) c.in-Sample.rf c.in-Sample.rr (has_room old.record.seq old.record.seq_in_range c.if-self-eq-MAX_EVENTS.false) (c.take_samples.ensures settings refl))
+    (samples_taken settings old.record (record_view c.take_samples.new.m) c.in-Sample.rf c.in-Sample.rr (has_room old.record.seq old.record.seq_in_range c.if-self-eq-MAX_EVENTS.false) (c.take_samples.ensures.stands settings refl))
 
 pub returns-in-Pulse-clause-takes : goal.returns-in-Pulse-clause-takes
 returns-in-Pulse-clause-takes c =
     let old = c.args.self.now in
     let settings = settings_of old.config in
     subst (λ e. Takes settings (record_view old.record) (event_view e) (record_view c.take_pulses.new.m) c.take_pulses.result) (sym c.in-Pulse.is)
-    (c.take_pulses.ensures.takes settings refl (sym c.rate-rate.ensures.per_pulse) c.rate-rate.ensures.in_force)
+    (c.take_pulses.ensures.takes settings refl (sym old.per_pulse) old.in_force)
 
 pub returns-in-Date-clause-takes : goal.returns-in-Date-clause-takes
 returns-in-Date-clause-takes c =

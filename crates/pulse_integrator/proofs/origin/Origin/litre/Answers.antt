@@ -28,7 +28,7 @@ returns-in-Counts c =
     (record {
       flow_cell = rw c.of.ensures.flow both.0;
       return_cell = rw c.of.ensures.ret both.1;
-      holds = rw (c.of.ensures.flow, c.of.ensures.ret) c.litre_energy.ensures.holds;
+      holds = rw (c.of.ensures.flow, c.of.ensures.ret, ← c.requires) c.litre_energy.ensures.holds;
       low = c.of.ensures.low;
       high = c.of.ensures.high;
       closer = rw (c.of.ensures.flow, c.of.ensures.ret) c.of.ensures.closer;
