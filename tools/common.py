@@ -17,6 +17,8 @@ from datetime import date, timedelta
 from fractions import Fraction
 from typing import Callable, List, NoReturn, Optional, Sequence, Tuple, Union
 
+import platinum
+
 MEMORY = "register.bin"
 MEMORY_BYTES = 16384
 FIRST_DAY = date(2000, 1, 1)
@@ -27,6 +29,7 @@ ENDING_SIGNALS = (signal.SIGINT, signal.SIGTERM, signal.SIGHUP)
 LAUNCHER_MARK = "heat-meter: "
 
 MILLIJOULES_A_KWH = 3_600_000_000
+BAD_CALIBRATION = 3  # the program's status of a faulty configuration
 
 
 # Ends and streams.
@@ -190,6 +193,19 @@ def calculator_limit(least: Union[int, Fraction], difference: Fraction) -> Fract
     return Fraction(1, 2) + Fraction(least) / difference
 
 
+# Sensors.
+
+
+def calibration(tool: str, path: str) -> platinum.Pair:
+    """The calibrated sensors of a configuration or a certificate; without them the tool ends with a status of its own."""
+    try:
+        return platinum.read_pair(path)
+    except platinum.Misfit as error:
+        stop(tool, f"{path}: {error}", BAD_CALIBRATION)
+    except (OSError, ValueError) as error:
+        stop(tool, f"cannot read {path}: {why(error)}", BAD_CALIBRATION)
+
+
 # The program.
 
 
@@ -278,9 +294,9 @@ class Shown:
 
 @dataclass(frozen=True)
 class Header:
-    """What the memory's header says and `show` does not; `sensor` in ohms at 0 degrees Celsius."""
+    """What the memory's header says and `show` does not."""
 
-    sensor: int
+    pair: platinum.Pair
     litres_per_pulse: int
     opening_day: date
 
@@ -349,10 +365,18 @@ def header(cwd: Union[str, os.PathLike]) -> Header:
     memory = pathlib.Path(cwd) / MEMORY
     try:
         with open(memory, "rb") as file:
-            front = file.read(24)
+            front = file.read(50)
     except OSError as error:
         stop(_tool(), f"cannot read {memory}: {why(error)}")
-    if len(front) != 24:
+    if len(front) != 50:
         stop(_tool(), f"{memory} has no header")
-    sensor, litres, day = (int.from_bytes(front[at : at + 2], "little") for at in (14, 16, 22))
-    return Header(sensor, litres, FIRST_DAY + timedelta(days=day))
+
+    def number(at, count):
+        return int.from_bytes(front[at : at + count], "little")
+
+    def element(at):
+        return platinum.Element(number(at, 4), number(at + 4, 4), number(at + 8, 2))
+
+    sensor = number(14, 2)
+    pair = platinum.Pair(sensor, element(28), element(40)) if front[24] else platinum.nominal_pair(sensor)
+    return Header(pair, number(16, 2), FIRST_DAY + timedelta(days=number(22, 2)))

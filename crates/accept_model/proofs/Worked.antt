@@ -32,6 +32,7 @@ standard = record {
   volume_decimals = 2;
   set_month = 1;
   opening_day = 8780;
+  calibration = None;
 }
 
 -- the members of its text, in the order of their bytes

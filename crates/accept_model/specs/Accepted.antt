@@ -1,14 +1,16 @@
 -- The texts that are accepted as configurations, and the first fault of each other text.
-use Rattle.std.specs.Prelude.{ℕ, suc, cond, not, nat_lt, nat_eq, List, [], ◌∷◌, length, Bool, Option, None, Some, option_map, Result, Ok, Err}
+use Rattle.std.specs.Prelude.{ℕ, suc, cond, codes, not, nat_lt, nat_eq, List, [], ◌∷◌, length, Bool, Option, None, Some, option_map, Result, Ok, Err}
 use Rattle.std.specs.List.{list_any, position}
 use Rattle.std.specs.Str.{is_utf8}
 use Rattle.std.specs.Cmp.Lexicographic.{pointwise}
-use Rattle.serde_json.specs.Data.{Data, Members, no_members, member}
+use Rattle.serde_json.specs.Data.{Data, Members}
 use Rattle.serde_json.specs.Find.{get, as_object}
 use Rattle.serde_json.specs.Read.{read}
 use Rattle.heat_model.specs.Heat.{Flow}
+use Rattle.platinum_model.specs.Element.{Element}
 use Rattle.config_model.specs.Configuration.{Configuration}
 use Rattle.accept_model.specs.Keys.{Key, keys, key_names}
+use Rattle.accept_model.specs.Calibration.{calibration, names_of}
 
 -- Why a text is refused: it is longer than 4,096 bytes, no JSON, or no object; a key is missing or has a wrong value, with
 -- the key's number; or the object has another key, with its place among the object's keys in the order of their bytes.
@@ -55,16 +57,25 @@ blank = record {
   volume_decimals = 0;
   set_month = 0;
   opening_day = 0;
+  calibration = None;
 }
+
+-- constants of the sensors, where there are any
+abbrev pub unless_wrong : Option (Element × Element) → Result (Option (Element × Element)) Fault
+unless_wrong None = Err (Wrong 12)
+unless_wrong (Some constants) = Ok (Some constants)
+
+-- what the key `calibration` says, where it is there
+abbrev pub calibration_in : (sensor_ohm : ℕ) → Option Data → Result (Option (Element × Element)) Fault
+calibration_in ohm None = Ok None
+calibration_in ohm (Some value) = unless_wrong (calibration ohm value)
+
+abbrev pub calibrated : Option Data → Configuration → Result Configuration Fault
+calibrated said c = and_then (calibration_in c.sensor_ohm said) (λ constants. Ok (record c { calibration = constants }))
 
 -- what the keys of an object say
 unfoldable pub said_by : Data → Result Configuration Fault
-said_by value = read_keys 0 keys value blank
-
--- the names of an object's members, in the order of their bytes
-abbrev pub names_of : Members → List (List ℕ)
-names_of no_members = []
-names_of (member name value more) = name ∷ names_of more
+said_by value = and_then (read_keys 0 keys value blank) (calibrated (get (codes "calibration") value))
 
 -- whether the table has no key of this name
 abbrev pub is_other : List ℕ → Bool

@@ -1,5 +1,5 @@
 -- The keys of a configuration's text.
-use Rattle.std.specs.Prelude.{ℕ, codes, List, [], ◌∷◌, map, Option, slice_index_or}
+use Rattle.std.specs.Prelude.{ℕ, codes, List, [], ◌∷◌, ◌++◌, map, Option, slice_index_or}
 use Rattle.serde_json.specs.Data.{Data}
 use Rattle.config_model.specs.Configuration.{Configuration, is_sensor, is_pulse}
 use Rattle.accept_model.specs.Values.{whole, whole_in, digits, capitals, place, date}
@@ -14,7 +14,7 @@ pub record Key : Type 1 where
 abbrev pub key : {Part : Type 0} → List ℕ → (Data → Option Part) → (Part → Configuration → Configuration) → Key
 key {Part} name rule put = record { Part = Part; name = name; rule = rule; put = put }
 
--- the keys, in the order of their numbers
+-- the keys that have to be there, in the order of their numbers
 unfoldable pub keys : List Key
 keys =
     key (codes "serial") (digits 8) (λ n c. record c { serial = n })
@@ -31,9 +31,9 @@ keys =
     ∷ key (codes "opening_day") date (λ n c. record c { opening_day = n })
     ∷ []
 
--- the names of the keys
+-- the names of the keys, at last that of the one that may be absent
 unfoldable pub key_names : List (List ℕ)
-key_names = map (λ k. k.name) keys
+key_names = map (λ k. k.name) keys ++ codes "calibration" ∷ []
 
 -- the name of the key of this number
 abbrev pub name_of : ℕ → List ℕ

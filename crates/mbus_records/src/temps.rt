@@ -1,11 +1,11 @@
 //! The temperatures of a telegram.
-ghost use Rattle.std.specs.Prelude.{◌≡◌, ◌+◌, ◌*◌, ◌≤◌, ◌++◌, length};
+ghost use Rattle.std.specs.Prelude.{◌≡◌, ◌+◌, ◌≤◌, ◌++◌};
 ghost use Rattle.std.specs.Option.{ForSome};
 ghost use Rattle.arrayvec.specs.ArrayVec.{array_vec_len};
-ghost use Rattle.platinum_model.specs.Element.{nominal};
+ghost use Rattle.config_model.specs.Configuration.{flow_element, return_element};
 ghost use Rattle.telegram_model.specs.Telegram.{difference, one_temp, sample_records, temp_of, temp_records};
 ghost use Rattle.pt_curve.specs.Curve.{element};
-ghost use Rattle.meter_config.specs.Views.{sensor_ohm};
+ghost use Rattle.meter_config.specs.Views.{config_view};
 
 use crate::push::{ROOM, push_temp};
 use arrayvec::ArrayVec;
@@ -22,7 +22,7 @@ const DIFFERENCE: u8 = 0x60;
 /// Appends the temperatures of the samples in force, in microohms, where they are in range.
 pub(crate) fn push_samples(body: &mut ArrayVec<u8, ROOM>, c: &Config, samples: Option<(u32, u32)>)
     requires { array_vec_len body.old + 18 ≤ 252 }
-    ensures items { body.new.items ≡ body.old.items ++ sample_records (nominal (1000000 * sensor_ohm c.now.sensor)) samples }
+    ensures items { body.new.items ≡ body.old.items ++ sample_records (flow_element (config_view c.now)) (return_element (config_view c.now)) samples }
     ensures len { array_vec_len body.new ≤ array_vec_len body.old + 18 }
 {
     if let Some((flow, ret)) = samples {

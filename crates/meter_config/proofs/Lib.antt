@@ -1,3 +1,4 @@
 pub mod Dates
 pub mod Names
 pub mod Steps
+pub mod Calibrations

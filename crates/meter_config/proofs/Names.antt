@@ -1,4 +1,4 @@
--- The names of an object's members: an other one, if there is one, stands among the first thirteen.
+-- The names of an object's members: an other one, if there is one, stands among the first fourteen.
 use Rattle.std.proofs.Common.{◌≡◌, ℕ, suc, ◌+◌, ◌≤◌, Bool, true, false, not, cond, List, [], ◌∷◌, map, length, filter, Some, None, String, Global, Less, refl, sym, ap, ◌∙◌, arith, inl, inr, string_bytes, string_cmp, nat_cmp, bytes_eq}
 use Rattle.std.specs.Prelude.{IfSome}
 use Rattle.std.proofs.lemmas.Bool.{cases_Bool}
@@ -17,7 +17,8 @@ use Rattle.std.specs.Set.{is_member}
 use Rattle.serde_json.proofs.Views.{Entry}
 use Rattle.serde_json.specs.View.{members_view}
 use Rattle.accept_model.specs.Keys.{keys, key_names}
-use Rattle.accept_model.specs.Accepted.{names_of, is_other, other_key}
+use Rattle.accept_model.specs.Calibration.{names_of}
+use Rattle.accept_model.specs.Accepted.{is_other, other_key}
 
 abbrev same_name : List ℕ → List ℕ → Bool
 same_name = eq_by_cmp (slice_cmp nat_cmp)
@@ -69,16 +70,16 @@ few_keys names sorted =
     (IsDistinct-from_sorted (slice_cmp nat_cmp) _ (IsStrictlySortedBy-filter (slice_cmp nat_cmp) (λ name. not (is_other name)) names sorted))
     (λ q h. in_table key_names q (not_not _ (passes (λ name. not (is_other name)) names q h)))
 
-twelve : length key_names ≡ 12
+thirteen : length key_names ≡ 13
 unfolding keys key_names
-twelve = refl
+thirteen = refl
 
-few_at : (b : Bool) (n : ℕ) → n ≤ 12 → IfSome (cond b (Some n) None) (λ place. place ≤ 12)
+few_at : (b : Bool) (n : ℕ) → n ≤ 13 → IfSome (cond b (Some n) None) (λ place. place ≤ 13)
 few_at true n h = h
 few_at false n h = tt
 
-few : (names : List (List ℕ)) → IsStrictlySortedBy (slice_cmp nat_cmp) names → IfSome (position is_other names) (λ place. place ≤ 12)
-few names sorted = few_at _ (position_or_len is_other names) (omega (arith, front-le (λ name. not (is_other name)) names, few_keys names sorted, twelve))
+few : (names : List (List ℕ)) → IsStrictlySortedBy (slice_cmp nat_cmp) names → IfSome (position is_other names) (λ place. place ≤ 13)
+few names sorted = few_at _ (position_or_len is_other names) (omega (arith, front-le (λ name. not (is_other name)) names, few_keys names sorted, thirteen))
 
 -- a map's keys as names
 above : (key : String Global) (more : List (String Global)) → AllByRecursion (λ k. string_cmp key k ≡ Less) more → AllByRecursion (λ name. slice_cmp nat_cmp (string_bytes key) name ≡ Less) (map string_bytes more)
@@ -102,9 +103,13 @@ length-names : (ks : List (String Global)) → length (map string_bytes ks) ≡ 
 length-names [] = refl
 length-names (k ∷ ks) = ap suc (length-names ks)
 
+pub length-view : (es : List Entry) → length (names_of (members_view es)) ≡ length es
+length-view [] = refl
+length-view (e ∷ es) = ap suc (length-view es)
+
 -- the place of the first other key, by the map's keys
 pub other_key-view : (es : List Entry) → other_key (members_view es) ≡ position (λ k. is_other (string_bytes k)) (keys_of es)
 other_key-view es = rw (names_of-view es, position_or_len-names is_other (keys_of es), length-names (keys_of es)) refl
 
-pub few-view : (es : List Entry) → IsStrictlySortedBy string_cmp (keys_of es) → IfSome (other_key (members_view es)) (λ place. place ≤ 12)
+pub few-view : (es : List Entry) → IsStrictlySortedBy string_cmp (keys_of es) → IfSome (other_key (members_view es)) (λ place. place ≤ 13)
 few-view es sorted = rw (names_of-view es) (few _ (sorted_names (keys_of es) sorted))

@@ -1,27 +1,27 @@
 -- A configuration as the definitions name it.
-use Rattle.std.specs.Prelude.{ℕ}
-use Rattle.platinum_model.specs.Element.{nominal}
+use Rattle.std.specs.Prelude.{Option, option_map}
+use Rattle.platinum_model.specs.Element.{Element}
 use Rattle.metering_model.specs.Settings.{Settings}
-use Rattle.config_model.specs.Configuration.{Configuration}
+use Rattle.config_model.specs.Configuration.{Configuration, flow_or_nominal, return_or_nominal}
 use Rattle.sensor_pair.specs.Place.{place_view}
-use Rattle.pt_curve.specs.Curve.{nominal_r0}
-use Rattle.pt_curve.specs.declared.sensor.Sensor.{Sensor}
-use Rattle.pt_curve.specs.declared.sensor.Sensor.TheVariants.{Pt100, Pt500, Pt1000}
+use Rattle.pt_curve.specs.Curve.{constants, sensor_ohm}
+use Rattle.pt_curve.specs.declared.cal.Cal.{Cal}
 use Rattle.meter_config.specs.declared.config.Config.{Config}
 
--- the resistance at 0 °C in ohms
-abbrev pub sensor_ohm : Sensor → ℕ
-sensor_ohm Pt100 = 100
-sensor_ohm Pt500 = 500
-sensor_ohm Pt1000 = 1000
+abbrev pub constants_of_both : Cal × Cal → Element × Element
+constants_of_both c = (constants c.0, constants c.1)
+
+-- the constants of both sensors, where they are calibrated
+abbrev pub calibration_view : Option (Cal × Cal) → Option (Element × Element)
+calibration_view = option_map constants_of_both
 
 -- what the definitions of metering need of a configuration
 abbrev pub settings_of : Config → Settings
 settings_of c = record {
   place = place_view c.place;
   pressure_kpa = c.pressure_kpa;
-  flow = nominal (nominal_r0 c.sensor);
-  ret = nominal (nominal_r0 c.sensor);
+  flow = flow_or_nominal (sensor_ohm c.sensor) (calibration_view c.cal);
+  ret = return_or_nominal (sensor_ohm c.sensor) (calibration_view c.cal);
   litres_per_pulse = c.per_pulse;
   set_month = c.set_month;
   kept_months = 24;
@@ -41,4 +41,5 @@ config_view c = record {
   volume_decimals = c.volume_decimals;
   set_month = c.set_month;
   opening_day = c.opening_day.number;
+  calibration = calibration_view c.cal;
 }

@@ -1,10 +1,11 @@
-ghost use Rattle.std.specs.Prelude.{◌≡◌, ◌∷◌, [], ◌≤◌, IsTrue};
+ghost use Rattle.std.specs.Prelude.{◌≡◌, ◌∷◌, [], ◌≤◌, IsTrue, None, option_map};
 ghost use Rattle.std.specs.Int.{IsInRange};
 ghost use Rattle.std.specs.List.{list_all};
-ghost use Rattle.config_model.specs.Configuration.{is_capital, is_pulse};
+ghost use Rattle.config_model.specs.Configuration.{flow_element, is_calibration, is_capital, is_pulse, return_element};
+ghost use Rattle.pt_curve.specs.Curve.{constants, sensor_ohm};
 
 use billing_memory::Day;
-use pt_curve::{Curve, Sensor};
+use pt_curve::{Cal, Curve, Sensor};
 use sensor_pair::{Pair, Place};
 
 /// What a meter is told once, before it counts.
@@ -34,6 +35,8 @@ pub struct Config {
     pub set_month: u8,
     /// The day on which the meter begins to count.
     pub opening_day: Day,
+    /// The constants of the sensors in the flow and in the return, where they are calibrated.
+    pub cal: Option<(Cal, Cal)>,
     pub ghost serial_in_range: { serial ≤ 99999999 },
     pub ghost maker_in_range: { IsTrue (list_all is_capital maker) },
     pub ghost address_in_range: { address ≤ 250 },
@@ -42,12 +45,14 @@ pub struct Config {
     pub ghost energy_decimals_in_range: { energy_decimals ≤ 3 },
     pub ghost volume_decimals_in_range: { volume_decimals ≤ 3 },
     pub ghost set_month_in_range: { IsInRange 1 12 set_month },
+    pub ghost cal_fits: { IsTrue (is_calibration (sensor_ohm sensor) (option_map (λ c. (constants c.0, constants c.1)) cal)) },
 }
 
 impl Config {
     ghost use Rattle.sensor_pair.specs.declared.place.Place.TheVariants.{Return};
     ghost use Rattle.pt_curve.specs.declared.sensor.Sensor.TheVariants.{Pt500};
-    ghost use Rattle.pt_curve.specs.Curve.{nominal_r0};
+    ghost use Rattle.pt_curve.specs.Curve.{element};
+    ghost use Rattle.meter_config.specs.Views.{config_view};
 
     /// The configuration that a meter has where no other is asked for.
     pub fn standard() -> Config
@@ -63,6 +68,7 @@ impl Config {
         ensures volume_decimals { result.volume_decimals ≡ 2 }
         ensures set_month { result.set_month ≡ 1 }
         ensures opening_day { result.opening_day.number ≡ 8780 }
+        ensures cal { result.cal ≡ None }
     {
         Config {
             serial: 12_345_678,
@@ -77,17 +83,24 @@ impl Config {
             volume_decimals: 2,
             set_month: 1,
             opening_day: Day { number: 8_780 },
+            cal: None,
         }
     }
 
     /// The curves of the temperature sensors in the flow and in the return.
     pub fn pair(&self) -> Pair
-        ensures flow { result.flow.r0_uohm ≡ nominal_r0 self.now.sensor }
-        ensures ret { result.ret.r0_uohm ≡ nominal_r0 self.now.sensor }
+        ensures flow { element result.flow ≡ flow_element (config_view self.now) }
+        ensures ret { element result.ret ≡ return_element (config_view self.now) }
     {
-        Pair {
-            flow: Curve::nominal(self.sensor),
-            ret: Curve::nominal(self.sensor),
+        match self.cal {
+            None => Pair {
+                flow: Curve::nominal(self.sensor),
+                ret: Curve::nominal(self.sensor),
+            },
+            Some((flow, ret)) => Pair {
+                flow: Curve::calibrated(flow),
+                ret: Curve::calibrated(ret),
+            },
         }
     }
 }

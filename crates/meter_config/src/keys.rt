@@ -15,7 +15,7 @@ use crate::fault::ConfigFault;
 use serde_json::{Map, Value};
 
 /// How many keys there are. Their numbers begin at 0.
-const KEY_COUNT: u8 = 12;
+const KEY_COUNT: u8 = 13;
 
 /// The name of the key of this number, and nothing for a number that is no key's.
 #[tactic(auto, unfolding(accept_model::specs::Keys::keys, accept_model::specs::Keys::key_names))]
@@ -35,6 +35,7 @@ pub fn key_name(key: u8) -> &'static str
         9 => "volume_decimals",
         10 => "set_month",
         11 => "opening_day",
+        12 => "calibration",
         _ => "",
     }
 }
@@ -58,7 +59,7 @@ pub fn other_key(object: &Map<String, Value>) -> Option<u32>
     ensures { result ≡ other_key_of (members_view object.now.entries) }
 {
     match first_other(object) {
-        // The names before it are keys, so there are at most twelve.
+        // The names before it are keys, so there are at most thirteen.
         Some(place) => Some(place as u32),
         None => None,
     }
@@ -78,7 +79,7 @@ fn is_other(name: &str) -> bool
 }
 
 fn is_key(name: &str) -> bool
-    ensures { result ≡ list_any (λ key. bytes_eq (name_of key) name.now) (range_with_len 0 12) }
+    ensures { result ≡ list_any (λ key. bytes_eq (name_of key) name.now) (range_with_len 0 13) }
 {
     (0..KEY_COUNT).any(|key| key_name(key) == name)
 }

@@ -1,6 +1,7 @@
 //! The configuration of a heat meter, and how it is read from a text.
 #![tactic(auto)]
 
+mod calibration;
 mod config;
 mod fault;
 #[cfg(test)]

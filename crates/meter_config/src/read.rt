@@ -1,13 +1,14 @@
 //! A configuration from its text.
 
-ghost use Rattle.std.specs.Prelude.{◌≡◌, ◌≢◌, IfErr, IfOk, Ok, Some};
+ghost use Rattle.std.specs.Prelude.{◌≡◌, ◌≢◌, ◌<◌, IfErr, IfOk, Err, Ok, Some, length};
 ghost use Rattle.serde_json.specs.View.{view};
 ghost use Rattle.config_model.specs.Configuration.{IsConfiguration};
 ghost use Rattle.accept_model.specs.Accepted.{accepted, of_value, said_by};
 ghost use Rattle.meter_config.specs.Faults.{Answers, Refuses};
 ghost use Rattle.meter_config.specs.Views.{config_view};
-ghost use Rattle.meter_config.specs.declared.fault.ConfigFault.TheVariants.{OutOfMemory};
+ghost use Rattle.meter_config.specs.declared.fault.ConfigFault.TheVariants.{OutOfMemory, TooLong};
 
+use crate::calibration::calibration_at;
 use crate::config::Config;
 use crate::fault::ConfigFault;
 use crate::keys::other_key;
@@ -18,19 +19,21 @@ use std::alloc::Global;
 /// The most bytes of a configuration's text.
 const MAX_TEXT: usize = 4_096;
 
-/// Reads a configuration from a text: one JSON object with the twelve keys of [`crate::key_name`], and no
-/// other, each with a value in the range of the field of [`Config`] that it is for. `serial` is a string
-/// of eight digits, `maker` one of three letters A to Z, `place` is `"flow"` or `"return"`, and
-/// `opening_day` is a string `YYYY-MM-DD`. All other values are whole numbers. Of a repeated key the last
-/// value stands.
+/// Reads a configuration from a text: one JSON object with the keys of [`crate::key_name`], and no other,
+/// each with a value in the range of the field of [`Config`] that it is for; `calibration` alone may be
+/// absent. `serial` is a string of eight digits, `maker` one of three letters A to Z, `place` is `"flow"` or
+/// `"return"`, `opening_day` is a string `YYYY-MM-DD`, and `calibration` an object of the whole numbers
+/// `flow_r0`, `flow_a`, `flow_b`, `return_r0`, `return_a` and `return_b`, the fields of [`pt_curve::Cal`] of
+/// the two sensors. All other values are whole numbers. Of a repeated key the last value stands.
 ///
 /// # Errors
 /// [`ConfigFault`], the first cause that is met, in the order of its variants. Missing and Wrong are looked
-/// for together, key by key. OutOfMemory comes for want of memory alone.
+/// for together, key by key. OutOfMemory comes for want of memory alone, and not where the text is too long.
 pub fn read_config(alloc: Global, text: &[u8]) -> Result<Config, ConfigFault>
     ensures ok { IfOk result (λ c. accepted text.now ≡ Ok (config_view c)) }
     ensures range { IfOk result (λ c. IsConfiguration (config_view c)) }
     ensures err { IfErr result (λ e. e ≢ OutOfMemory → Refuses e (accepted text.now)) }
+    ensures too_long { 4096 < length text.now → result ≡ Err TooLong }
 {
     if text.len() > MAX_TEXT {
         return Err(ConfigFault::TooLong);
@@ -56,7 +59,7 @@ fn config_of(value: &Value) -> Result<Config, ConfigFault>
     }
 }
 
-// What the twelve keys of an object say.
+// What the keys of an object say.
 fn keyed_config(object: &Value) -> Result<Config, ConfigFault>
     ensures said { Answers config_view result (said_by (view object.now)) }
     ensures range { IfOk result (λ c. IsConfiguration (config_view c)) }
@@ -73,6 +76,7 @@ fn keyed_config(object: &Value) -> Result<Config, ConfigFault>
     let volume_decimals = whole_at(object, 9, 0, 3)?;
     let set_month = whole_at(object, 10, 1, 12)?;
     let opening_day = date_at(object, 11)?;
+    let cal = calibration_at(object, sensor)?;
     Ok(Config {
         serial,
         maker,
@@ -86,12 +90,14 @@ fn keyed_config(object: &Value) -> Result<Config, ConfigFault>
         volume_decimals: volume_decimals as u8,
         set_month: set_month as u8,
         opening_day,
+        cal,
     })
 }
 
 #[cfg(test)]
 mod tests {
     use super::*;
+    use pt_curve::Cal;
     use std::test::Fail;
 
     const DEFAULT: &str =
@@ -163,6 +169,53 @@ mod tests {
             changed(&rt, "}", ",\"version\":256}")?,
             Err(ConfigFault::Wrong { key: 2 })
         );
+        Ok(())
+    }
+
+    const CALIBRATION: &str =
+        "\"calibration\":{\"flow_r0\":501000000,\"flow_a\":39083000,\"flow_b\":5775,\"return_r0\":500000000,\"return_a\":39083000,\"return_b\":5775}";
+
+    // What the default text gives with a calibration in which `old` is replaced by `new`.
+    fn calibrated(
+        rt: &HostRuntime,
+        old: &str,
+        new: &str,
+    ) -> Result<Result<Config, ConfigFault>, Fail> {
+        let calibration = CALIBRATION.replace(rt.alloc(), old, new)?;
+        let mut text = DEFAULT.replace(rt.alloc(), "}", ",")?;
+        text.push_str(calibration.as_str())?;
+        text.push_str("}")?;
+        Ok(read_config(rt.alloc(), text.as_bytes()))
+    }
+
+    #[test]
+    fn calibrated_texts(rt: HostRuntime) -> Result<(), Fail> {
+        let nominal = Cal {
+            r0_uohm: 500_000_000,
+            a_e10: 39_083_000,
+            b_e10: 5_775,
+        };
+        let mut flow = nominal;
+        flow.r0_uohm = 501_000_000;
+        let read = calibrated(&rt, "501000000", "501000000")?;
+        assert_eq!(rt; read.map(|c| c.cal), Ok(Some((flow, nominal))));
+        for (old, new, fault) in [
+            (
+                "\"flow_b\":5775",
+                "\"flow_b\":5499",
+                ConfigFault::Wrong { key: 12 },
+            ),
+            ("501000000", "502500001", ConfigFault::Wrong { key: 12 }),
+            ("}", ",\"more\":1}", ConfigFault::Wrong { key: 12 }),
+            ("}", "},\"zone\":1", ConfigFault::Unknown { place: 13 }),
+            (
+                "5775}",
+                "5775.0},\"zone\":1",
+                ConfigFault::Wrong { key: 12 },
+            ),
+        ] {
+            assert_eq!(rt; calibrated(&rt, old, new)?, Err(fault));
+        }
         Ok(())
     }
 }

@@ -11,7 +11,7 @@ ghost use Rattle.accept_model.specs.Keys.{name_of};
 ghost use Rattle.accept_model.specs.Accepted.{value_at};
 ghost use Rattle.meter_config.specs.Faults.{Answers};
 ghost use Rattle.sensor_pair.specs.Place.{place_view};
-ghost use Rattle.meter_config.specs.Views.{sensor_ohm};
+ghost use Rattle.pt_curve.specs.Curve.{sensor_ohm};
 
 use crate::fault::ConfigFault;
 use crate::keys::member;

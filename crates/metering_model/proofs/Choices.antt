@@ -1,20 +1,22 @@
 -- Every sample in range has a whole nanodegree in its cell, so that there are temperatures for any events.
-use Rattle.std.proofs.Common.{◌≡◌, ℕ, zero, suc, ◌+◌, ◌-◌, ◌*◌, ◌^◌, ◌<◌, ◌≤◌, List, [], ◌∷◌, ◌++◌, length, map, Option, None, Some, refl, sym, ap, ◌∙◌, subst, arith, lit<, ◌⊎◌, inl, inr, append_assoc, length-append}
+use Rattle.std.proofs.Common.{◌≡◌, ℕ, zero, suc, ◌+◌, ◌-◌, ◌*◌, ◌^◌, ◌<◌, ◌≤◌, List, [], ◌∷◌, ◌++◌, length, map, Option, None, Some, refl, sym, ap, ◌∙◌, subst, arith, lit<, IsTrue, ◌⊎◌, inl, inr, append_assoc, length-append}
 use Rattle.std.specs.List.{AllByRecursion}
 use Rattle.std.proofs.lemmas.Bool.{cases_lt}
 use Rattle.std.proofs.Math.ListN.{get_or}
 use Rattle.std.proofs.Math.Seq.{get_or-append_seam}
-use native.Mathlib.Nat.{mul-le-mul_left}
+use native.Mathlib.Nat.{mul-le-mul_left, mul-le-mul}
 use Rattle.number_model.specs.Fraction.{Fraction, whole}
 use Rattle.number_model.specs.Enclosure.{nanodegrees}
 use Rattle.number_model.proofs.Same.{same_refl, same_sym}
-use Rattle.platinum_model.specs.Element.{Element, nominal, resistance, scaled_resistance}
+use Rattle.platinum_model.specs.Element.{Element, resistance, scaled_resistance}
 use Rattle.platinum_model.specs.Sample.{IsInRange, IsInCell}
 use Rattle.platinum_model.proofs.Order.{le_same, half_more}
 use Rattle.platinum_model.proofs.Curve.{IsRising}
 use Rattle.platinum_model.proofs.Scaled.{at_most, at_least}
 use Rattle.platinum_model.proofs.Samples.{from_0, to_180, IsInRange-low, IsInRange-high}
-use Rattle.platinum_model.proofs.Cells.{IsSteep, less_half}
+use Rattle.platinum_model.specs.Calibration.{fits_a_sensor}
+use Rattle.platinum_model.proofs.Cells.{less_half}
+use Rattle.platinum_model.proofs.Fitting.{AreFitting, fitting, fitting-steep}
 use Rattle.metering_model.specs.Events.{Kept, Placed, placed, placed_after}
 use Rattle.metering_model.specs.Settings.{Settings}
 use Rattle.metering_model.specs.Counting.{Counted}
@@ -93,27 +95,23 @@ in_cell e r rising slow range =
     near_above : (r x : ℕ) → x ≤ 10 ^ 28 * r → x * 2 ≤ 10 ^ 28 * (2 * r + 1)
     near_above r x h = omega arith
 
--- ---- nominal elements from 100 to 1,000 ohms
-pub record IsKind (r0 : ℕ) : Type 0 where
-  pub least : 100000000 ≤ r0
-  pub most : r0 ≤ 1000000000
+-- ---- elements whose constants fit a sensor
+fitting-slow : (e : Element) → IsTrue (fits_a_sensor e) → IsSlow e
+fitting-slow e fits =
+    let ranges : AreFitting e = fitting e fits in
+    let most : e.r0_uohm * e.a_e10 ≤ 1005000000 * 39400000 = mul-le-mul ranges.r0_most ranges.a_most in
+    record { slope = omega arith }
 
-nominal-steep : (r0 : ℕ) → IsKind r0 → IsSteep (nominal r0)
-nominal-steep r0 kind = record { rising = record { conducts = omega (arith, kind.least); steep = omega arith }; slope = omega (arith, kind.least) }
-
-nominal-slow : (r0 : ℕ) → IsKind r0 → IsSlow (nominal r0)
-nominal-slow r0 kind = record { slope = omega (arith, kind.most) }
-
-pub nominal-in_cell : (r0 r : ℕ) → IsKind r0 → IsInRange (nominal r0) r → HasNanodegree (nominal r0) r
-nominal-in_cell r0 r kind range = in_cell (nominal r0) r (nominal-steep r0 kind).rising (nominal-slow r0 kind) range
+pub fitting-in_cell : (e : Element) (r : ℕ) → IsTrue (fits_a_sensor e) → IsInRange e r → HasNanodegree e r
+fitting-in_cell e r fits range = in_cell e r (fitting-steep e fits).rising (fitting-slow e fits) range
 
 -- each cell of a sample in range has a temperature
 HasCells : Element → Type 0
 HasCells e = (r : ℕ) → IsInRange e r → (t : Fraction) × IsInCell e r t
 
-nominal-cells : (r0 : ℕ) → IsKind r0 → HasCells (nominal r0)
+fitting-cells : (e : Element) → IsTrue (fits_a_sensor e) → HasCells e
 unfolding HasCells
-nominal-cells r0 kind r range = let found = nominal-in_cell r0 r kind range in (nanodegrees found.0, found.1)
+fitting-cells e fits r range = let found = fitting-in_cell e r fits range in (nanodegrees found.0, found.1)
 
 -- ---- a choice
 none : Temps
@@ -148,22 +146,18 @@ choice-exists c o ks flow ret =
     let all = chosen (λ e t. IsChoiceOf c (counted_at c o e) t) pick (λ e. (at e).1) [] [] ks refl in
     ((λ n. get_or (map pick (placed ks)) n none), all)
 
--- ---- settings whose sensors are of such a kind
-pub record HaveKind (c : Settings) : Type 0 where
-  pub r0 : ℕ
-  pub kind : IsKind r0
-  pub flow : c.flow ≡ nominal r0
-  pub ret : c.ret ≡ nominal r0
+-- ---- settings whose sensors have such constants
+pub record HaveFitting (c : Settings) : Type 0 where
+  pub flow : IsTrue (fits_a_sensor c.flow)
+  pub ret : IsTrue (fits_a_sensor c.ret)
 
-pub all_have_choice : (c : Settings) (o : MeterRecord) (ks : List Kept) → HaveKind c → HasChoice c o ks
-all_have_choice c o ks have =
-    choice-exists c o ks (subst HasCells (sym have.flow) (nominal-cells have.r0 have.kind)) (subst HasCells (sym have.ret) (nominal-cells have.r0 have.kind))
+pub all_have_choice : (c : Settings) (o : MeterRecord) (ks : List Kept) → HaveFitting c → HasChoice c o ks
+all_have_choice c o ks have = choice-exists c o ks (fitting-cells c.flow have.flow) (fitting-cells c.ret have.ret)
 
-pub all_are_near : (c : Settings) (o : MeterRecord) (ks : List Kept) → HaveKind c → AllFitWithMargin c o ks → AreNear c o ks
+pub all_are_near : (c : Settings) (o : MeterRecord) (ks : List Kept) → HaveFitting c → AllFitWithMargin c o ks → AreNear c o ks
 all_are_near c o ks have margin =
-    let narrow = narrow-steep (nominal have.r0) (nominal-steep have.r0 have.kind) in
-    let flow : HasNarrowCells c.flow = subst (λ e. HasNarrowCells e) (sym have.flow) narrow in
-    let ret : HasNarrowCells c.ret = subst (λ e. HasNarrowCells e) (sym have.ret) narrow in
+    let flow : HasNarrowCells c.flow = narrow-steep c.flow (fitting-steep c.flow have.flow) in
+    let ret : HasNarrowCells c.ret = narrow-steep c.ret (fitting-steep c.ret have.ret) in
     let fit = fit-of-margin c o ks margin in
     record {
       near = λ choice is. all_near c o choice ks fit is;

@@ -4,5 +4,7 @@ pub mod Rising
 pub mod Scaled
 pub mod Samples
 pub mod Cells
+pub mod Fitting
+pub mod SensorKinds
 pub mod Pairs
 pub mod Worked

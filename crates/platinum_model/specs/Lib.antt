@@ -1,3 +1,4 @@
 pub mod Element
+pub mod Calibration
 pub mod Sample
 pub mod Pair

@@ -1,3 +1,4 @@
-pub mod NominalCurve
+pub mod FittingCurve
+pub mod Tests
 pub mod Bisection
 pub mod CellEnds

@@ -1,3 +1,2 @@
-pub mod Nominal
 pub mod Curve
 pub mod Steps

@@ -1,9 +1,11 @@
-//! Platinum resistance thermometers after IEC 60751: resistance from temperature, and temperature from
-//! resistance, exactly, from 0 to 180 °C.
+//! Platinum resistance thermometers after IEC 60751, nominal and calibrated: resistance from temperature,
+//! and temperature from resistance, exactly, from 0 to 180 °C.
 #![tactic(auto)]
 
+mod cal;
 mod curve;
 mod sensor;
 
+pub use cal::Cal;
 pub use curve::Curve;
 pub use sensor::Sensor;

@@ -6,9 +6,9 @@ use Rattle.std.specs.List.{All}
 use Rattle.std.specs.Prelude.{reverse}
 use Rattle.std.proofs.lemmas.List.{length-take, length-reverse, get_or-reverse}
 use Rattle.std.proofs.lemmas.List.Elements.{All-take, All-drop}
-use Rattle.platinum_model.specs.Element.{Element, nominal}
+use Rattle.platinum_model.specs.Element.{Element}
 use Rattle.calendar_model.specs.Entries.{MonthEntry}
-use Rattle.config_model.specs.Configuration.{Configuration, IsConfiguration}
+use Rattle.config_model.specs.Configuration.{Configuration, IsConfiguration, flow_element, return_element}
 use Rattle.metering_model.specs.Records.{Register, MeterRecord}
 use Rattle.metering_model.specs.Counting.{is_at_most, greatest_to, whole_temp, is_in_range}
 use Rattle.display_model.specs.Display.{shown_digits, energy_unit, volume_unit}
@@ -102,9 +102,9 @@ temps_read flow ret f r =
     (both_read (one_temp 88 flow) (one_temp 92 ret) (one_temp_reading FlowTemp flow) (one_temp_reading ReturnTemp ret) (one_temp_read FlowTemp 88 flow f refl) (one_temp_read ReturnTemp 92 ret r refl))
     (difference_read flow ret f r)
 
-samples_read : (e : Element) (samples : Option (ℕ × ℕ)) → AreRead (sample_records e samples) (sample_readings e samples)
-samples_read e None = none_read
-samples_read e (Some s) = temps_read (temp_of e s.0) (temp_of e s.1) (temp_small e s.0) (temp_small e s.1)
+samples_read : (flow ret : Element) (samples : Option (ℕ × ℕ)) → AreRead (sample_records flow ret samples) (sample_readings flow ret samples)
+samples_read flow ret None = none_read
+samples_read flow ret (Some s) = temps_read (temp_of flow s.0) (temp_of ret s.1) (temp_small flow s.0) (temp_small ret s.1)
 
 -- ---- entries
 
@@ -128,11 +128,12 @@ entries_read c storage (e ∷ es) is few low =
 first_read : (c : Configuration) (m : MeterRecord) → IsConfiguration c → HasDays m → AreRead (first_records c m) (first_readings c m)
 unfolding first_records
 first_read c m is days =
-    let e = nominal (1000000 * c.sensor_ohm) in
+    let flow = flow_element c in
+    let ret = return_element c in
     let shown = both_read (energy_record c 0 m.register) (volume_record c 0 m.register) (energy_reading c 0 m.register ∷ []) (volume_reading c 0 m.register ∷ []) (energy_read c 0 m.register is.energy_decimals (omega arith)) (volume_read c 0 m.register is.volume_decimals (omega arith)) in
-    let temps = both_read (energy_record c 0 m.register ++ volume_record c 0 m.register) (sample_records e m.samples) (energy_reading c 0 m.register ∷ volume_reading c 0 m.register ∷ []) (sample_readings e m.samples) shown (samples_read e m.samples) in
-    let dated = both_read (energy_record c 0 m.register ++ volume_record c 0 m.register ++ sample_records e m.samples) (date_record 0 m.day) (energy_reading c 0 m.register ∷ volume_reading c 0 m.register ∷ sample_readings e m.samples) (date_reading 0 m.day ∷ []) temps (date_read 0 m.day days.day (omega arith)) in
-    both_read (energy_record c 0 m.register ++ volume_record c 0 m.register ++ sample_records e m.samples ++ date_record 0 m.day) (set_day_records c m.set_day) (energy_reading c 0 m.register ∷ volume_reading c 0 m.register ∷ sample_readings e m.samples ++ date_reading 0 m.day ∷ []) (set_day_readings c m.set_day) dated (set_day_read c m.set_day is days.set_day)
+    let temps = both_read (energy_record c 0 m.register ++ volume_record c 0 m.register) (sample_records flow ret m.samples) (energy_reading c 0 m.register ∷ volume_reading c 0 m.register ∷ []) (sample_readings flow ret m.samples) shown (samples_read flow ret m.samples) in
+    let dated = both_read (energy_record c 0 m.register ++ volume_record c 0 m.register ++ sample_records flow ret m.samples) (date_record 0 m.day) (energy_reading c 0 m.register ∷ volume_reading c 0 m.register ∷ sample_readings flow ret m.samples) (date_reading 0 m.day ∷ []) temps (date_read 0 m.day days.day (omega arith)) in
+    both_read (energy_record c 0 m.register ++ volume_record c 0 m.register ++ sample_records flow ret m.samples ++ date_record 0 m.day) (set_day_records c m.set_day) (energy_reading c 0 m.register ∷ volume_reading c 0 m.register ∷ sample_readings flow ret m.samples ++ date_reading 0 m.day ∷ []) (set_day_readings c m.set_day) dated (set_day_read c m.set_day is days.set_day)
 
 -- the days of entries, the other way round
 pub newest_first : (es : List (MonthEntry Register)) → All IsInCentury es → All IsInCentury (reverse es)

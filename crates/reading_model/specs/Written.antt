@@ -3,10 +3,10 @@
 use Rattle.std.specs.Prelude.{ℕ, zero, suc, ◌+◌, ◌*◌, nat_lt, ℤ, pos, ◌-ℤ◌, List, [], ◌∷◌, ◌++◌, length, take, drop, reverse, Option, None, Some, ◌≤◌}
 use Rattle.std.specs.List.{All}
 use Rattle.std.specs.Option.{option_to_list}
-use Rattle.platinum_model.specs.Element.{Element, nominal}
+use Rattle.platinum_model.specs.Element.{Element}
 use Rattle.calendar_model.specs.Entries.{MonthEntry}
 use Rattle.display_model.specs.Display.{shown_digits, energy_unit, volume_unit}
-use Rattle.config_model.specs.Configuration.{Configuration}
+use Rattle.config_model.specs.Configuration.{Configuration, flow_element, return_element}
 use Rattle.metering_model.specs.Records.{Register, MeterRecord}
 use Rattle.telegram_model.specs.Values.{thousandths}
 use Rattle.telegram_model.specs.Telegram.{temp_of, newest}
@@ -61,9 +61,9 @@ abbrev pub temp_readings : Option ℕ → Option ℕ → List Reading
 temp_readings flow ret = one_temp_reading FlowTemp flow ++ one_temp_reading ReturnTemp ret ++ difference_reading flow ret
 
 -- the temperatures of the samples in force, where they are in range
-abbrev pub sample_readings : Element → Option (ℕ × ℕ) → List Reading
-sample_readings e None = []
-sample_readings e (Some s) = temp_readings (temp_of e s.0) (temp_of e s.1)
+abbrev pub sample_readings : (flow ret : Element) → Option (ℕ × ℕ) → List Reading
+sample_readings flow ret None = []
+sample_readings flow ret (Some s) = temp_readings (temp_of flow s.0) (temp_of ret s.1)
 
 -- an entry: its day, its energy and its volume
 abbrev pub entry_readings : Configuration → ℕ → MonthEntry Register → List Reading
@@ -81,7 +81,7 @@ abbrev pub first_readings : Configuration → MeterRecord → List Reading
 first_readings c m =
     energy_reading c 0 m.register
     ∷ volume_reading c 0 m.register
-    ∷ sample_readings (nominal (1000000 * c.sensor_ohm)) m.samples ++ date_reading 0 m.day ∷ [] ++ set_day_readings c m.set_day
+    ∷ sample_readings (flow_element c) (return_element c) m.samples ++ date_reading 0 m.day ∷ [] ++ set_day_readings c m.set_day
 
 -- those of telegram 0, and of telegram k with its eight month entries at most, from the newest on
 abbrev pub readings_of : Configuration → MeterRecord → ℕ → List Reading

@@ -1,42 +1,72 @@
 -- The energy of the record that a memory holds is bounded, and so is that of any events that fit with margin.
-use Rattle.std.proofs.Common.{◌≡◌, ◌⊎◌, inl, inr, ℕ, ◌+◌, ◌*◌, ◌≤◌, pos, ◌+ℤ◌, ◌-ℤ◌, List, length, true, refl, sym, ap, subst, arith}
+use Rattle.std.proofs.Common.{◌≡◌, ◌⊎◌, inl, inr, ℕ, ◌+◌, ◌*◌, ◌≤◌, pos, ◌+ℤ◌, ◌-ℤ◌, List, length, true, Option, None, Some, refl, sym, ap, subst, arith}
 use Rattle.std.proofs.lemmas.Int.{ints}
+use Rattle.std.proofs.lemmas.Bool.{cases_eq, and_parts}
 use Rattle.std.proofs.lemmas.Bool.Decides.{nat_tests}
-use Rattle.platinum_model.specs.Element.{nominal}
+use Rattle.platinum_model.specs.Element.{Element, nominal}
+use Rattle.platinum_model.specs.Calibration.{fits, fits_a_sensor}
 use Rattle.platinum_model.specs.Sample.{IsInRange}
+use Rattle.platinum_model.proofs.SensorKinds.{fits_pt100, fits_pt500, fits_pt1000}
 use Rattle.metering_model.specs.Events.{Kept}
 use Rattle.metering_model.specs.Records.{MeterRecord, StandsFor, bound_in, energy_in}
 use Rattle.metering_model.specs.Integral.{AllFitClosely, AllFitWithMargin, IsChoice, IsNear, Temps, counted_litres, exact_integral}
 use Rattle.metering_model.specs.Near.{AreNear, HasChoice, HasNanodegree}
-use Rattle.metering_model.proofs.Choices.{HaveKind, IsKind, all_are_near, all_have_choice, nominal-in_cell}
+use Rattle.metering_model.proofs.Choices.{HaveFitting, all_are_near, all_have_choice, fitting-in_cell}
 use Rattle.metering_model.proofs.Joined.{margin-of-closely}
-use Rattle.config_model.specs.Configuration.{Configuration, is_sensor}
+use Rattle.config_model.specs.Configuration.{Configuration, is_sensor, is_calibration, flow_or_nominal, return_or_nominal}
 use Rattle.trace_model.specs.Trace.{Trace}
 use Rattle.trace_model.specs.Output.{output_lines}
 use Rattle.pairing_model.specs.Settings.{settings_for}
 use Rattle.recovery_model.specs.Bounded.{HoldsBounded, IsWithinBound, events_of, held_events}
 use Rattle.recovery_model.specs.Right.{IsRight, StandsForNext}
-use Rattle.recovery_model.proofs.Held.{held_sensor}
+use Rattle.recovery_model.proofs.Held.{held_sensor, held_calibration}
 
-is_kind : (ohm : ℕ) → is_sensor ohm ≡ true → (100 ≤ ohm) × (ohm ≤ 1000)
-is_kind ohm h = (grind (arith, nat_tests), grind (arith, nat_tests))
+which : (ohm : ℕ) → is_sensor ohm ≡ true → (ohm ≡ 100) ⊎ ((ohm ≡ 500) ⊎ (ohm ≡ 1000))
+which ohm h = elim (cases_eq ohm 100) [
+  | inl is ↦ inl is
+  | inr no_100 ↦ elim (cases_eq ohm 500) [
+    | inl is ↦ inr (inl is)
+    | inr no_500 ↦ inr (inr (grind (arith, nat_tests)))
+  ]
+]
 
-in_microohms : (ohm : ℕ) → is_sensor ohm ≡ true → IsKind (1000000 * ohm)
-in_microohms ohm h = let range = is_kind ohm h in record { least = omega (arith, range.0); most = omega (arith, range.1) }
+fits_here : (e : Element) (ohm : ℕ) → is_sensor ohm ≡ true → fits e (1000000 * ohm) ≡ true → fits_a_sensor e ≡ true
+fits_here e ohm h k =
+    elim (which ohm h) [
+      | inl is ↦ fits_pt100 e (subst (λ (n : ℕ). fits e (1000000 * n) ≡ true) is k)
+      | inr (inl is) ↦ fits_pt500 e (subst (λ (n : ℕ). fits e (1000000 * n) ≡ true) is k)
+      | inr (inr is) ↦ fits_pt1000 e (subst (λ (n : ℕ). fits e (1000000 * n) ≡ true) is k)
+    ]
 
-have_kind : (c : Configuration) → is_sensor c.sensor_ohm ≡ true → HaveKind (settings_for c)
-have_kind c h = record { r0 = 1000000 * c.sensor_ohm; kind = in_microohms c.sensor_ohm h; flow = refl; ret = refl }
+nominal_fits : (ohm : ℕ) → is_sensor ohm ≡ true → fits (nominal (1000000 * ohm)) (1000000 * ohm) ≡ true
+nominal_fits ohm h =
+    elim (which ohm h) [
+      | inl is ↦ rw is refl
+      | inr (inl is) ↦ rw is refl
+      | inr (inr is) ↦ rw is refl
+    ]
+
+flow_fits : (ohm : ℕ) (k : Option (Element × Element)) → is_sensor ohm ≡ true → is_calibration ohm k ≡ true → fits_a_sensor (flow_or_nominal ohm k) ≡ true
+flow_fits ohm None h fit = fits_here (nominal (1000000 * ohm)) ohm h (nominal_fits ohm h)
+flow_fits ohm (Some k) h fit = fits_here k.0 ohm h (and_parts (fits k.0 (1000000 * ohm)) (fits k.1 (1000000 * ohm)) fit).0
+
+return_fits : (ohm : ℕ) (k : Option (Element × Element)) → is_sensor ohm ≡ true → is_calibration ohm k ≡ true → fits_a_sensor (return_or_nominal ohm k) ≡ true
+return_fits ohm None h fit = fits_here (nominal (1000000 * ohm)) ohm h (nominal_fits ohm h)
+return_fits ohm (Some k) h fit = fits_here k.1 ohm h (and_parts (fits k.0 (1000000 * ohm)) (fits k.1 (1000000 * ohm)) fit).1
+
+have_fitting : (c : Configuration) → is_sensor c.sensor_ohm ≡ true → is_calibration c.sensor_ohm c.calibration ≡ true → HaveFitting (settings_for c)
+have_fitting c h fit = record { flow = flow_fits c.sensor_ohm c.calibration h fit; ret = return_fits c.sensor_ohm c.calibration h fit }
 
 -- ---- laws of any events
 
-pub cell_has_nanodegree : (ohm r : ℕ) → is_sensor ohm ≡ true → IsInRange (nominal (1000000 * ohm)) r → HasNanodegree (nominal (1000000 * ohm)) r
-cell_has_nanodegree ohm r sensor range = nominal-in_cell (1000000 * ohm) r (in_microohms ohm sensor) range
+pub cell_has_nanodegree : (e : Element) (ohm r : ℕ) → is_sensor ohm ≡ true → fits e (1000000 * ohm) ≡ true → IsInRange e r → HasNanodegree e r
+cell_has_nanodegree e ohm r sensor fit range = fitting-in_cell e r (fits_here e ohm sensor fit) range
 
-pub choice_exists : (c : Configuration) (o : MeterRecord) (events : List Kept) → is_sensor c.sensor_ohm ≡ true → HasChoice (settings_for c) o events
-choice_exists c o events sensor = all_have_choice (settings_for c) o events (have_kind c sensor)
+pub choice_exists : (c : Configuration) (o : MeterRecord) (events : List Kept) → is_sensor c.sensor_ohm ≡ true → is_calibration c.sensor_ohm c.calibration ≡ true → HasChoice (settings_for c) o events
+choice_exists c o events sensor fit = all_have_choice (settings_for c) o events (have_fitting c sensor fit)
 
-pub margin_is_near : (c : Configuration) (o : MeterRecord) (events : List Kept) → is_sensor c.sensor_ohm ≡ true → AllFitWithMargin (settings_for c) o events → AreNear (settings_for c) o events
-margin_is_near c o events sensor margin = all_are_near (settings_for c) o events (have_kind c sensor) margin
+pub margin_is_near : (c : Configuration) (o : MeterRecord) (events : List Kept) → is_sensor c.sensor_ohm ≡ true → is_calibration c.sensor_ohm c.calibration ≡ true → AllFitWithMargin (settings_for c) o events → AreNear (settings_for c) o events
+margin_is_near c o events sensor fit margin = all_are_near (settings_for c) o events (have_fitting c sensor fit) margin
 
 -- ---- the record that is held
 
@@ -75,5 +105,5 @@ pub right_bounded : (c : Configuration) (o : MeterRecord) (lines : List (List �
 right_bounded c o lines moment image right =
     let is = held_for c o lines right.journal.kept (length (output_lines moment)) right.held right.fits right.stands in
     let events = held_events right in
-    let all = margin_is_near c o events (held_sensor image c right.held right.side right.holds) (margin-of-closely (settings_for c) o events is.fits) in
+    let all = margin_is_near c o events (held_sensor image c right.held right.side right.holds) (held_calibration image c right.held right.side right.holds) (margin-of-closely (settings_for c) o events is.fits) in
     record { stands = is.stands; bounded = within c o right.held events is.stands all; cap = capped c o right.held events is.stands all }

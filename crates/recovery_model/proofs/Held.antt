@@ -1,12 +1,13 @@
 -- A record that a memory holds has few events and months.
-use Rattle.std.proofs.Common.{◌≡◌, ℕ, zero, suc, ◌≤◌, ◌==◌, Bool, true, false, nat_le, List, [], ◌∷◌, length, Option, None, Some, Result, Ok, Err, refl, ap, subst, arith}
+use Rattle.std.proofs.Common.{◌≡◌, ℕ, zero, suc, ◌*◌, ◌≤◌, ◌==◌, Bool, true, false, nat_le, List, [], ◌∷◌, length, Option, None, Some, Result, Ok, Err, refl, ap, subst, arith}
 use Rattle.std.specs.Prelude.{if◌then◌else◌, slice_index, slice_get}
 use Rattle.std.proofs.lemmas.Bool.{leb-true}
 use Rattle.std.proofs.lemmas.List.FromFn.{length-map-range_with_len}
-use Rattle.config_model.specs.Configuration.{Configuration, is_sensor}
+use Rattle.platinum_model.specs.Calibration.{fits_r0, fits_a, fits_b}
+use Rattle.config_model.specs.Configuration.{Configuration, both, is_calibration, is_sensor}
 use Rattle.metering_model.specs.Records.{MeterRecord}
 use Rattle.memory_model.specs.Fields.{Field, first_broken, part, unless_broken, value}
-use Rattle.memory_model.specs.Header.{configuration_of, header_fields, header_in, sensor_field}
+use Rattle.memory_model.specs.Header.{configuration_of, header_fields, header_in, sensor_field, are_calibrated, r0_field, a_field, b_field, constants_of}
 use Rattle.memory_model.specs.Slot.{month_count_field, month_entry, months_of, record_fields, record_in, record_of, seq_field}
 use Rattle.memory_model.specs.Stored.{Side, Unformatted, Holds, chosen, mark, slot_at, stored, with_header, with_record}
 
@@ -69,6 +70,28 @@ in_header bytes c is =
     let whole = whole_value (first_broken header_fields bytes) (configuration_of bytes) c is in
     subst (λ (k : Configuration). is_sensor k.sensor_ohm ≡ true) whole.1 (keeps_at header_fields 9 sensor_field bytes refl whole.0)
 
+all_fit : (calibrated : Bool) (ohm a b d a' b' d' : ℕ)
+    → (if calibrated then fits_r0 (1000000 * ohm) a else a == 0) ≡ true → (if calibrated then fits_a b else b == 0) ≡ true → (if calibrated then fits_b d else d == 0) ≡ true
+    → (if calibrated then fits_r0 (1000000 * ohm) a' else a' == 0) ≡ true → (if calibrated then fits_a b' else b' == 0) ≡ true → (if calibrated then fits_b d' else d' == 0) ≡ true
+    → is_calibration ohm
+    (both (if calibrated then Some (record { r0_uohm = a; a_e10 = b; b_e10 = d }) else None) (if calibrated then Some (record { r0_uohm = a'; a_e10 = b'; b_e10 = d' }) else None))
+    ≡ true
+all_fit false ohm a b d a' b' d' = λ _ _ _ _ _ _. refl
+all_fit true ohm a b d a' b' d' = λ h k l h' k' l'. rw (h, k, l, h', k', l') refl
+
+fit_in_header : (bytes : List ℕ) (c : Configuration) → header_in bytes ≡ Ok c → is_calibration c.sensor_ohm c.calibration ≡ true
+unfolding header_in header_fields configuration_of constants_of
+fit_in_header bytes c is =
+    let whole = whole_value (first_broken header_fields bytes) (configuration_of bytes) c is in
+    subst (λ (k : Configuration). is_calibration k.sensor_ohm k.calibration ≡ true) whole.1
+    (all_fit (are_calibrated bytes) (value sensor_field bytes) _ _ _ _ _ _
+    (keeps_at header_fields 20 (r0_field 28) bytes refl whole.0)
+    (keeps_at header_fields 21 (a_field 32) bytes refl whole.0)
+    (keeps_at header_fields 22 (b_field 36) bytes refl whole.0)
+    (keeps_at header_fields 25 (r0_field 40) bytes refl whole.0)
+    (keeps_at header_fields 26 (a_field 44) bytes refl whole.0)
+    (keeps_at header_fields 27 (b_field 48) bytes refl whole.0))
+
 config_on_side : (c c' : Configuration) (side side' : Side) (slot : Result MeterRecord ℕ) (r : MeterRecord) → with_record c side slot ≡ Holds c' r side' → c ≡ c'
 config_on_side c c' side side' (Ok s) r is = cc
 config_on_side c c' side side' (Err at) r is = absurd cc
@@ -84,4 +107,9 @@ config_marked false first header c side side' slot r is = absurd cc
 pub held_sensor : (memory : List ℕ) (c : Configuration) (r : MeterRecord) (side : Side) → stored memory ≡ Holds c r side → is_sensor c.sensor_ohm ≡ true
 held_sensor memory c r side is =
     in_header (part 0 256 memory) c
+    (config_marked (slice_index memory 0 == mark) (slice_index memory 0) (header_in (part 0 256 memory)) c (chosen memory) side (record_in (part (slot_at (chosen memory)) 1280 memory)) r is)
+
+pub held_calibration : (memory : List ℕ) (c : Configuration) (r : MeterRecord) (side : Side) → stored memory ≡ Holds c r side → is_calibration c.sensor_ohm c.calibration ≡ true
+held_calibration memory c r side is =
+    fit_in_header (part 0 256 memory) c
     (config_marked (slice_index memory 0 == mark) (slice_index memory 0) (header_in (part 0 256 memory)) c (chosen memory) side (record_in (part (slot_at (chosen memory)) 1280 memory)) r is)

@@ -4,7 +4,7 @@ use Rattle.metering_model.specs.Events.{Pulse}
 use Rattle.metering_model.specs.Records.{MeterRecord}
 use Rattle.trace_model.specs.Trace.{Trace, Start, ◌▷◌, Store, Sync, Put}
 use Rattle.memory_model.specs.Fields.{number, zero_bytes}
-use Rattle.memory_model.specs.Header.{header_fields, header_in, configuration_of}
+use Rattle.memory_model.specs.Header.{header_fields, header_in, configuration_of, constants_of}
 use Rattle.memory_model.specs.Slot.{record_in, record_of, record_fields, month_fields, month_keeps, set_day_keeps, months_of, samples_of, set_day_of}
 use Rattle.memory_model.specs.Stored.{A, B, Holds, stored}
 use Rattle.memory_model.proofs.Worked.{header, in_8, memory_of, slot_text}
@@ -42,16 +42,16 @@ abbrev gate_stored : List ℕ
 gate_stored = memory_of header 1 (slot_text 76 34) slot_text_3
 
 new_holds : stored new_memory ≡ Holds standard opening A
-unfolding record_in record_fields record_of number month_fields month_keeps set_day_keeps months_of samples_of set_day_of header_in header_fields configuration_of zero_bytes
+unfolding record_in record_fields record_of number month_fields month_keeps set_day_keeps months_of samples_of set_day_of header_in header_fields configuration_of constants_of zero_bytes
 new_holds = refl
 
 -- a slot that is not chosen yet changes nothing
 slot_holds : stored slot_stored ≡ Holds standard opening A
-unfolding record_in record_fields record_of number month_fields month_keeps set_day_keeps months_of samples_of set_day_of header_in header_fields configuration_of zero_bytes
+unfolding record_in record_fields record_of number month_fields month_keeps set_day_keeps months_of samples_of set_day_of header_in header_fields configuration_of constants_of zero_bytes
 slot_holds = refl
 
 gate_holds : stored gate_stored ≡ Holds standard after_three B
-unfolding record_in record_fields record_of number month_fields month_keeps set_day_keeps months_of samples_of set_day_of header_in header_fields configuration_of zero_bytes
+unfolding record_in record_fields record_of number month_fields month_keeps set_day_keeps months_of samples_of set_day_of header_in header_fields configuration_of constants_of zero_bytes
 gate_holds = refl
 
 -- ---- the run

@@ -9,8 +9,9 @@ use Rattle.heat_model.specs.Heat.{Place, Flow, Return}
 use Rattle.config_model.specs.Configuration.{Configuration, IsConfiguration, is_capital, is_sensor, is_pulse}
 use Rattle.memory_model.specs.Fields.{AreBytes, first_broken, unless_broken, number, zero_bytes}
 use Rattle.memory_model.specs.Header.{header_in, header_fields, configuration_of, place_of}
-use Rattle.state_codec.specs.Header.{identity_fields, measuring_fields, billing_fields, place_code, identity_bytes, measuring_bytes, billing_bytes, header_bytes}
+use Rattle.state_codec.specs.Header.{identity_fields, measuring_fields, billing_fields, calibration_fields, calibration_of, place_code, identity_bytes, measuring_bytes, billing_bytes, calibration_bytes, header_bytes}
 use Rattle.state_codec.proofs.Checks.{AllKeep, all_kept, first_broken-all, checked-ok}
+use Rattle.state_codec.proofs.CalibrationLaws.{spelled, spelled-is, calibration-keeps, calibration-again, calibration-spelled, tail-again}
 use Rattle.state_codec.proofs.Spelling.{written_1, written_2, written_4, written_zeros, piece, spelled_1, spelled_2, spelled_4, spelled_zeros}
 
 -- ---- what is written is read again
@@ -31,6 +32,9 @@ between_true a m b low high = grind (arith, nat_tests)
 
 sensor_fits : (n : ℕ) → is_sensor n ≡ true → n < 2 ^ 16
 sensor_fits n h = grind (arith, nat_tests)
+
+sensor_few : (n : ℕ) → is_sensor n ≡ true → n ≤ 1000
+sensor_few n h = grind (arith, nat_tests)
 
 pulse_fits : (n : ℕ) → is_pulse n ≡ true → n < 2 ^ 16
 pulse_fits n h = grind (arith, nat_tests)
@@ -103,9 +107,19 @@ module _ (c : Configuration) (x y z : ℕ) (fits : IsSpelled (lettered c x y z))
   unfolding number header_bytes identity_bytes measuring_bytes billing_bytes
   zero_keeps = refl
 
-  blank_after : first_broken (zero_bytes 24 232) text ≡ None
+  calibration_is : drop 24 text ≡ calibration_bytes c.calibration ++ replicate 204 0
   unfolding header_bytes identity_bytes measuring_bytes billing_bytes
-  blank_after = written_zeros 232 24 text refl
+  calibration_is = refl
+
+  constants_are : drop 24 text ≡ spelled c.calibration ++ replicate 204 0
+  constants_are = calibration_is ∙ ap (λ (l : List ℕ). l ++ replicate 204 0) (spelled-is c.calibration)
+
+  few_ohm : c.sensor_ohm ≤ 1000
+  few_ohm = sensor_few c.sensor_ohm fits.sensor_ohm
+
+  blank_after : first_broken (zero_bytes 52 204) text ≡ None
+  blank_after =
+      written_zeros 204 52 text (tail-again text (replicate 204 0) c.sensor_ohm c.calibration constants_are sensor_is few_ohm fits.calibration)
 
   identity_keeps : AllKeep identity_fields text
   identity_keeps =
@@ -146,12 +160,19 @@ module _ (c : Configuration) (x y z : ℕ) (fits : IsSpelled (lettered c x y z))
     ),
   )
 
+  calibration_keeps : AllKeep calibration_fields text
+  calibration_keeps = calibration-keeps text (replicate 204 0) c.sensor_ohm c.calibration constants_are sensor_is few_ohm fits.calibration
+
+  calibration_same : calibration_of text ≡ c.calibration
+  calibration_same = calibration-again text (replicate 204 0) c.sensor_ohm c.calibration constants_are sensor_is few_ohm fits.calibration
+
   none_broken : first_broken header_fields text ≡ None
   unfolding header_fields
   none_broken =
-      first_broken-all identity_fields (measuring_fields ++ (billing_fields ++ zero_bytes 24 232)) text identity_keeps
-      ∙ first_broken-all measuring_fields (billing_fields ++ zero_bytes 24 232) text measuring_keeps
-      ∙ first_broken-all billing_fields (zero_bytes 24 232) text billing_keeps ∙ blank_after
+      first_broken-all identity_fields (measuring_fields ++ (billing_fields ++ (calibration_fields ++ zero_bytes 52 204))) text identity_keeps
+      ∙ first_broken-all measuring_fields (billing_fields ++ (calibration_fields ++ zero_bytes 52 204)) text measuring_keeps
+      ∙ first_broken-all billing_fields (calibration_fields ++ zero_bytes 52 204) text billing_keeps
+      ∙ first_broken-all calibration_fields (zero_bytes 52 204) text calibration_keeps ∙ blank_after
 
   same : configuration_of text ≡ lettered c x y z
   unfolding configuration_of
@@ -168,6 +189,7 @@ module _ (c : Configuration) (x y z : ℕ) (fits : IsSpelled (lettered c x y z))
     volume_decimals = volume_decimals_is i;
     set_month = set_month_is i;
     opening_day = day_is i;
+    calibration = calibration_same i;
   }
 
   lettered-again : header_in text ≡ Ok (lettered c x y z)
@@ -200,7 +222,7 @@ place_kept n h = elim (cases_eq n 0) [
 ]
 
 module _ (bytes : List ℕ) (fits : AreBytes bytes) (size : length bytes ≡ 256) where
-  spelled_so : AllKeep measuring_fields bytes → AllKeep billing_fields bytes → drop 24 bytes ≡ replicate 232 0 → drop 2 bytes ≡ drop 1 (header_bytes (configuration_of bytes))
+  spelled_so : AllKeep measuring_fields bytes → AllKeep billing_fields bytes → drop 24 bytes ≡ calibration_bytes (calibration_of bytes) ++ replicate 204 0 → drop 2 bytes ≡ drop 1 (header_bytes (configuration_of bytes))
   unfolding header_bytes identity_bytes measuring_bytes billing_bytes configuration_of
   spelled_so measuring billing e24 =
       let e22 = piece 22 2 bytes (to_le_bytes w16 (number 22 2 bytes)) (spelled_2 bytes fits 22 (omega (arith, size))) ∙ ap (λ (l : List ℕ). to_le_bytes w16 (number 22 2 bytes) ++ l) e24 in
@@ -223,7 +245,9 @@ module _ (bytes : List ℕ) (fits : AreBytes bytes) (size : length bytes ≡ 256
   unfolding header_in header_fields
   header-spelled c e =
       let read = checked-ok (first_broken header_fields bytes) (configuration_of bytes) c e in
-      let first = all_kept identity_fields (measuring_fields ++ (billing_fields ++ zero_bytes 24 232)) bytes read.0 in
-      let second = all_kept measuring_fields (billing_fields ++ zero_bytes 24 232) bytes first.1 in
-      let third = all_kept billing_fields (zero_bytes 24 232) bytes second.1 in
-      spelled_so second.0 third.0 (spelled_zeros 232 24 bytes (omega (arith, size)) third.1) ∙ ap (λ d. drop 1 (header_bytes d)) read.1
+      let first = all_kept identity_fields (measuring_fields ++ (billing_fields ++ (calibration_fields ++ zero_bytes 52 204))) bytes read.0 in
+      let second = all_kept measuring_fields (billing_fields ++ (calibration_fields ++ zero_bytes 52 204)) bytes first.1 in
+      let third = all_kept billing_fields (calibration_fields ++ zero_bytes 52 204) bytes second.1 in
+      let fourth = all_kept calibration_fields (zero_bytes 52 204) bytes third.1 in
+      let blank = spelled_zeros 204 52 bytes (omega (arith, size)) fourth.1 in
+      spelled_so second.0 third.0 (calibration-spelled bytes fits size (replicate 204 0) fourth.0 blank) ∙ ap (λ d. drop 1 (header_bytes d)) read.1

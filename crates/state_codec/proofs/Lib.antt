@@ -3,6 +3,7 @@ pub mod Checks
 pub mod Wide
 pub mod Spelling
 pub mod Headers
+pub mod CalibrationLaws
 pub mod HeaderLaws
 pub mod MonthLaws
 pub mod MonthSteps

@@ -1,12 +1,13 @@
 -- The parts of the header.
-use Rattle.std.specs.Prelude.{ℕ, List, [], ◌∷◌, ◌++◌, replicate}
+use Rattle.std.specs.Prelude.{ℕ, List, [], ◌∷◌, ◌++◌, replicate, Option, None, Some}
 use Rattle.std.specs.Int.{w16, w32, to_le_bytes}
-use Rattle.config_model.specs.Configuration.{Configuration}
+use Rattle.config_model.specs.Configuration.{Configuration, both}
 use Rattle.heat_model.specs.Heat as heat
 use Rattle.sensor_pair.specs.Place.{place_view}
-use Rattle.meter_config.specs.Views.{sensor_ohm}
+use Rattle.platinum_model.specs.Element.{Element}
+use Rattle.pt_curve.specs.Curve.{sensor_ohm}
 use Rattle.memory_model.specs.Fields.{Field, value, zero_byte}
-use Rattle.memory_model.specs.Header.{format_field, serial_field, first_letter_field, second_letter_field, third_letter_field, version_field, address_field, place_field, place_of, pressure_field, sensor_field, litres_field, energy_decimals_field, volume_decimals_field, set_month_field, opening_day_field}
+use Rattle.memory_model.specs.Header.{format_field, serial_field, first_letter_field, second_letter_field, third_letter_field, version_field, address_field, place_field, place_of, pressure_field, sensor_field, litres_field, energy_decimals_field, volume_decimals_field, set_month_field, opening_day_field, calibrated_field, constants_fields, constants_of}
 use Rattle.state_codec.specs.declared.header_parts.Identity.{Identity}
 use Rattle.state_codec.specs.declared.header_parts.Measuring.{Measuring}
 use Rattle.state_codec.specs.declared.header_parts.Billing.{Billing}
@@ -61,6 +62,15 @@ billing_of bytes = (
 abbrev pub billing_view : Billing → ℕ × ℕ × ℕ × ℕ
 billing_view x = (x.energy_decimals, x.volume_decimals, x.set_month, x.opening_day.number)
 
+abbrev pub calibrated_fields : List Field
+calibrated_fields = calibrated_field ∷ zero_byte 25 ∷ zero_byte 26 ∷ zero_byte 27 ∷ []
+
+abbrev pub calibration_fields : List Field
+calibration_fields = calibrated_fields ++ (constants_fields 28 ++ constants_fields 40)
+
+abbrev pub calibration_of : List ℕ → Option (Element × Element)
+calibration_of bytes = both (constants_of 28 bytes) (constants_of 40 bytes)
+
 -- ---- a configuration's one spelling
 
 abbrev pub place_code : heat.Place → ℕ
@@ -77,6 +87,18 @@ measuring_bytes c =
 unfoldable pub billing_bytes : Configuration → List ℕ
 billing_bytes c = c.energy_decimals ∷ c.volume_decimals ∷ c.set_month ∷ 0 ∷ to_le_bytes w16 c.opening_day
 
--- bytes 1 to 255
+-- R0, A and B of a sensor, and two zeros
+unfoldable pub constants_bytes : Element → List ℕ
+constants_bytes e = to_le_bytes w32 e.r0_uohm ++ (to_le_bytes w32 e.a_e10 ++ (to_le_bytes w16 e.b_e10 ++ 0 ∷ 0 ∷ []))
+
+-- zeros where the sensors are not calibrated
+unfoldable pub calibration_bytes : Option (Element × Element) → List ℕ
+calibration_bytes None = replicate 28 0
+calibration_bytes (Some c) = 1 ∷ 0 ∷ 0 ∷ 0 ∷ (constants_bytes c.0 ++ constants_bytes c.1)
+
+-- bytes 1 to 23, and bytes 1 to 255
+unfoldable pub settings_bytes : Configuration → List ℕ
+settings_bytes c = identity_bytes c ++ (measuring_bytes c ++ billing_bytes c)
+
 unfoldable pub header_bytes : Configuration → List ℕ
-header_bytes c = identity_bytes c ++ (measuring_bytes c ++ (billing_bytes c ++ replicate 232 0))
+header_bytes c = identity_bytes c ++ (measuring_bytes c ++ (billing_bytes c ++ (calibration_bytes c.calibration ++ replicate 204 0)))

@@ -1,18 +1,21 @@
 //! The header's 256 bytes, read.
 
-ghost use Rattle.std.specs.Prelude.{◌≡◌, length, slice_index};
-ghost use Rattle.meter_config.specs.Views.{config_view};
-ghost use Rattle.memory_model.specs.Fields.{zero_bytes};
-ghost use Rattle.memory_model.specs.Header.{header_in};
+ghost use Rattle.std.specs.Prelude.{◌≡◌, ◌+◌, ◌≤◌, IfOk, IfSome, IsTrue, None, false, true, length, option_map, slice_index};
+ghost use Rattle.platinum_model.specs.Calibration.{fits};
+ghost use Rattle.config_model.specs.Configuration.{is_calibration};
+ghost use Rattle.pt_curve.specs.Curve.{constants, nominal_r0, sensor_ohm};
+ghost use Rattle.meter_config.specs.Views.{calibration_view, config_view};
+ghost use Rattle.memory_model.specs.Fields.{value, zero_bytes};
+ghost use Rattle.memory_model.specs.Header.{are_calibrated, constants_fields, constants_of, header_in, sensor_field};
 ghost use Rattle.state_codec.specs.Reading.{Gives, Passes, checked};
-ghost use Rattle.state_codec.specs.Header.{identity_fields, identity_view, identity_of, measuring_fields, measuring_view, measuring_of, billing_fields, billing_view, billing_of};
+ghost use Rattle.state_codec.specs.Header.{identity_fields, identity_view, identity_of, measuring_fields, measuring_view, measuring_of, billing_fields, billing_view, billing_of, calibrated_fields, calibration_fields, calibration_of};
 
 use crate::Foreign;
 use crate::fields::{u8_at, u16_at, u32_at};
 use crate::header_parts::{Billing, Identity, Measuring};
 use billing_memory::Day;
 use meter_config::Config;
-use pt_curve::Sensor;
+use pt_curve::{Cal, Sensor};
 use sensor_pair::Place;
 
 /// The configuration that the first 256 bytes of a memory hold. Byte 0 is the mark A5.
@@ -33,6 +36,7 @@ fn read_header(bytes: &[u8]) -> Result<Config, Foreign>
     let identity = read_identity(bytes)?;
     let measuring = read_measuring(bytes)?;
     let billing = read_billing(bytes)?;
+    let cal = read_calibration(bytes, measuring.sensor)?;
     check_blank(bytes)?;
     let maker = identity.maker;
     Ok(Config {
@@ -48,6 +52,7 @@ fn read_header(bytes: &[u8]) -> Result<Config, Foreign>
         volume_decimals: billing.volume_decimals,
         set_month: billing.set_month,
         opening_day: billing.opening_day,
+        cal,
     })
 }
 
@@ -146,12 +151,128 @@ fn read_billing(bytes: &[u8]) -> Result<Billing, Foreign>
     })
 }
 
-// The bytes from 24 on are 0.
+// The constants of both sensors, where they are calibrated.
+fn read_calibration(bytes: &[u8], sensor: Sensor) -> Result<Option<(Cal, Cal)>, Foreign>
+    requires size { length bytes.now ≡ 256 }
+    requires sensor { value sensor_field bytes.now ≡ sensor_ohm sensor }
+    ensures said { Gives calibration_view result (checked calibration_fields bytes.now (calibration_of bytes.now)) }
+    ensures fits { IfOk result (λ cal. IsTrue (is_calibration (sensor_ohm sensor) (calibration_view cal))) }
+{
+    let calibrated = read_calibrated(bytes)?;
+    let flow = read_cal(bytes, 28, calibrated, sensor)?;
+    let ret = read_cal(bytes, 40, calibrated, sensor)?;
+    match (flow, ret) {
+        (Some(flow), Some(ret)) => Ok(Some((flow, ret))),
+        _ => Ok(None),
+    }
+}
+
+fn read_calibrated(bytes: &[u8]) -> Result<bool, Foreign>
+    requires { length bytes.now ≡ 256 }
+    ensures { Gives (λ b. b) result (checked calibrated_fields bytes.now (are_calibrated bytes.now)) }
+{
+    let calibrated = match u8_at(bytes, 24) {
+        0 => false,
+        1 => true,
+        _ => return Err(Foreign { at: 24 }),
+    };
+    if u8_at(bytes, 25) != 0 {
+        return Err(Foreign { at: 25 });
+    }
+    if u8_at(bytes, 26) != 0 {
+        return Err(Foreign { at: 26 });
+    }
+    if u8_at(bytes, 27) != 0 {
+        return Err(Foreign { at: 27 });
+    }
+    Ok(calibrated)
+}
+
+// The constants of one sensor, in the 12 bytes from `at` on.
+fn read_cal(
+    bytes: &[u8],
+    at: usize,
+    calibrated: bool,
+    sensor: Sensor,
+) -> Result<Option<Cal>, Foreign>
+    requires size { length bytes.now ≡ 256 }
+    requires place { at + 12 ≤ 256 }
+    requires calibrated { are_calibrated bytes.now ≡ calibrated }
+    requires sensor { value sensor_field bytes.now ≡ sensor_ohm sensor }
+    ensures said { Gives (option_map constants) result (checked (constants_fields at) bytes.now (constants_of at bytes.now)) }
+    ensures fits { IfOk result (λ cal. IfSome cal (λ c. IsTrue (fits (constants c) (nominal_r0 sensor)))) }
+{
+    if calibrated {
+        read_constants(bytes, at, sensor)
+    } else {
+        read_no_constants(bytes, at)
+    }
+}
+
+#[tactic(auto, unfolding(memory_model::specs::Header::constants_of))]
+fn read_constants(bytes: &[u8], at: usize, sensor: Sensor) -> Result<Option<Cal>, Foreign>
+    requires size { length bytes.now ≡ 256 }
+    requires place { at + 12 ≤ 256 }
+    requires calibrated { are_calibrated bytes.now ≡ true }
+    requires sensor { value sensor_field bytes.now ≡ sensor_ohm sensor }
+    ensures said { Gives (option_map constants) result (checked (constants_fields at) bytes.now (constants_of at bytes.now)) }
+    ensures fits { IfOk result (λ cal. IfSome cal (λ c. IsTrue (fits (constants c) (nominal_r0 sensor)))) }
+{
+    let cal = Cal {
+        r0_uohm: u32_at(bytes, at),
+        a_e10: u32_at(bytes, at + 4),
+        b_e10: u16_at(bytes, at + 8),
+    };
+    if !cal.r0_fits(sensor) {
+        return Err(Foreign { at: at as u32 });
+    }
+    if !cal.a_fits() {
+        return Err(Foreign { at: at as u32 + 4 });
+    }
+    if !cal.b_fits() {
+        return Err(Foreign { at: at as u32 + 8 });
+    }
+    if u8_at(bytes, at + 10) != 0 {
+        return Err(Foreign { at: at as u32 + 10 });
+    }
+    if u8_at(bytes, at + 11) != 0 {
+        return Err(Foreign { at: at as u32 + 11 });
+    }
+    Ok(Some(cal))
+}
+
+#[tactic(auto, unfolding(memory_model::specs::Header::constants_of))]
+fn read_no_constants(bytes: &[u8], at: usize) -> Result<Option<Cal>, Foreign>
+    requires size { length bytes.now ≡ 256 }
+    requires place { at + 12 ≤ 256 }
+    requires calibrated { are_calibrated bytes.now ≡ false }
+    ensures said { Gives (option_map constants) result (checked (constants_fields at) bytes.now (constants_of at bytes.now)) }
+    ensures none { IfOk result (λ cal. cal ≡ None) }
+{
+    if u32_at(bytes, at) != 0 {
+        return Err(Foreign { at: at as u32 });
+    }
+    if u32_at(bytes, at + 4) != 0 {
+        return Err(Foreign { at: at as u32 + 4 });
+    }
+    if u16_at(bytes, at + 8) != 0 {
+        return Err(Foreign { at: at as u32 + 8 });
+    }
+    if u8_at(bytes, at + 10) != 0 {
+        return Err(Foreign { at: at as u32 + 10 });
+    }
+    if u8_at(bytes, at + 11) != 0 {
+        return Err(Foreign { at: at as u32 + 11 });
+    }
+    Ok(None)
+}
+
+// The bytes from 52 on are 0.
 fn check_blank(bytes: &[u8]) -> Result<(), Foreign>
     requires { length bytes.now ≡ 256 }
-    ensures { Passes (zero_bytes 24 232) bytes.now result }
+    ensures { Passes (zero_bytes 52 204) bytes.now result }
 {
-    for at in 24..256 {
+    for at in 52..256 {
         if u8_at(bytes, at) != 0 {
             return Err(Foreign { at: at as u32 });
         }

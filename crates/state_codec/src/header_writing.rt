@@ -1,15 +1,16 @@
 //! The header's bytes, written.
 
-ghost use Rattle.std.specs.Prelude.{◌≡◌, ℕ, List, ◌∷◌, ◌+◌, ◌≤◌, ◌++◌, length, drop, Ok};
+ghost use Rattle.std.specs.Prelude.{◌≡◌, ℕ, List, ◌∷◌, length, drop, Ok};
 ghost use Rattle.sensor_pair.specs.Place.{place_view};
-ghost use Rattle.meter_config.specs.Views.{config_view, sensor_ohm};
+ghost use Rattle.pt_curve.specs.Curve.{constants, sensor_ohm};
+ghost use Rattle.meter_config.specs.Views.{calibration_view, config_view};
 ghost use Rattle.memory_model.specs.Fields.{AreBytes};
 ghost use Rattle.memory_model.specs.Header.{header_in};
-ghost use Rattle.state_codec.specs.Header.{place_code, identity_bytes, measuring_bytes, billing_bytes};
+ghost use Rattle.state_codec.specs.Header.{place_code, identity_bytes, measuring_bytes, billing_bytes, settings_bytes, constants_bytes, calibration_bytes};
 
 use crate::fields::fill_front;
 use meter_config::Config;
-use pt_curve::Sensor;
+use pt_curve::{Cal, Sensor};
 use sensor_pair::Place;
 
 /// The bytes 1 to 255 of a memory with this configuration, to stand behind the mark A5.
@@ -22,6 +23,14 @@ pub fn encode_header(c: &Config) -> [u8; 255]
         → header_in bytes ≡ Ok (config_view c.now) → drop 1 result ≡ drop 2 bytes }
 {
     let mut out = [0; 255];
+    fill_front(&mut out, &write_settings(c), &write_calibration(c), &[]);
+    out
+}
+
+fn write_settings(c: &Config) -> [u8; 23]
+    ensures { result ≡ settings_bytes (config_view c.now) }
+{
+    let mut out = [0; 23];
     fill_front(
         &mut out,
         &write_identity(c),
@@ -29,6 +38,37 @@ pub fn encode_header(c: &Config) -> [u8; 255]
         &write_billing(c),
     );
     out
+}
+
+#[tactic(auto, unfolding(crate::specs::Header::calibration_bytes))]
+fn write_calibration(c: &Config) -> [u8; 28]
+    ensures { result ≡ calibration_bytes (calibration_view c.now.cal) }
+{
+    match c.cal {
+        None => [0; 28],
+        Some((flow, ret)) => {
+            let mut out = [0; 28];
+            fill_front(
+                &mut out,
+                &[1, 0, 0, 0],
+                &write_constants(flow),
+                &write_constants(ret),
+            );
+            out
+        }
+    }
+}
+
+#[tactic(auto, unfolding(crate::specs::Header::constants_bytes))]
+fn write_constants(cal: Cal) -> [u8; 12]
+    ensures { result ≡ constants_bytes (constants cal) }
+{
+    let r = cal.r0_uohm.to_le_bytes();
+    let a = cal.a_e10.to_le_bytes();
+    let b = cal.b_e10.to_le_bytes();
+    [
+        r[0], r[1], r[2], r[3], a[0], a[1], a[2], a[3], b[0], b[1], 0, 0,
+    ]
 }
 
 #[tactic(auto, unfolding(crate::specs::Header::identity_bytes))]

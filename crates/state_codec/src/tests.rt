@@ -4,6 +4,7 @@ use crate::*;
 use billing_memory::{Day, MeterRecord};
 use energy_register::Step;
 use meter_config::Config;
+use pt_curve::Cal;
 use std::test::Fail;
 
 // The fields of the standard configuration, behind the mark.
@@ -47,7 +48,9 @@ fn letters_and_reserved_bytes_have_offsets_of_their_own(rt: HostRuntime) {
     assert_eq!(rt; decode_header(&bytes), Err(Foreign { at: 255 }));
     bytes[100] = 0xff;
     assert_eq!(rt; decode_header(&bytes), Err(Foreign { at: 100 }));
-    bytes[24] = 0x01;
+    bytes[28] = 0x01;
+    assert_eq!(rt; decode_header(&bytes), Err(Foreign { at: 28 }));
+    bytes[24] = 0x02;
     assert_eq!(rt; decode_header(&bytes), Err(Foreign { at: 24 }));
     bytes[8] = 0x61;
     assert_eq!(rt; decode_header(&bytes), Err(Foreign { at: 8 }));
@@ -55,6 +58,34 @@ fn letters_and_reserved_bytes_have_offsets_of_their_own(rt: HostRuntime) {
     assert_eq!(rt; decode_header(&bytes), Err(Foreign { at: 7 }));
     bytes[6] = 0x40;
     assert_eq!(rt; decode_header(&bytes), Err(Foreign { at: 6 }));
+}
+
+// Bytes 24 to 51 where a Pt500 has 501 ohms at 0 °C in the flow, and the nominal constants in the return.
+const CONSTANTS: [u8; 28] = [
+    0x01, 0x00, 0x00, 0x00, 0x40, 0xa7, 0xdc, 0x1d, 0xf8, 0x5b, 0x54, 0x02, 0x8f, 0x16, 0x00, 0x00,
+    0x00, 0x65, 0xcd, 0x1d, 0xf8, 0x5b, 0x54, 0x02, 0x8f, 0x16, 0x00, 0x00,
+];
+
+#[test]
+fn calibrated_header_is_read_and_written(rt: HostRuntime) {
+    let mut bytes = header();
+    bytes[24..52].copy_from_slice(&CONSTANTS);
+    let nominal = Cal {
+        r0_uohm: 500_000_000,
+        a_e10: 39_083_000,
+        b_e10: 5_775,
+    };
+    let mut flow = nominal;
+    flow.r0_uohm = 501_000_000;
+    let config = decode_header(&bytes);
+    if let Ok(c) = config {
+        assert_eq!(rt; c.cal, Some((flow, nominal)));
+        // The header that is written begins with byte 1.
+        let written = encode_header(&c);
+        assert!(rt; written[23..51].iter().eq(CONSTANTS.iter()));
+    } else {
+        assert_eq!(rt; config, Ok(Config::standard()));
+    }
 }
 
 fn opening() -> MeterRecord {

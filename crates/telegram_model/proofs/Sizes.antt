@@ -4,9 +4,9 @@ use Rattle.std.specs.Prelude.{nat_lt}
 use Rattle.std.proofs.lemmas.List.{length-take}
 use Rattle.calendar_model.specs.Entries.{MonthEntry}
 use Rattle.display_model.specs.Display.{shown_digits, energy_unit, volume_unit}
-use Rattle.config_model.specs.Configuration.{Configuration}
+use Rattle.config_model.specs.Configuration.{Configuration, flow_element, return_element}
 use Rattle.metering_model.specs.Records.{Register, MeterRecord}
-use Rattle.platinum_model.specs.Element.{Element, nominal}
+use Rattle.platinum_model.specs.Element.{Element}
 use Rattle.telegram_model.specs.Values.{information, decimal_bytes, integer_bytes, date_bytes}
 use Rattle.telegram_model.specs.Telegram.{header, energy_record, volume_record, date_record, temp_records, temp_of, sample_records, entry_records, set_day_records, records_from, newest, first_records, records_of, mark_of}
 
@@ -70,9 +70,9 @@ length-temp_records None (Some t) = omega arith
 length-temp_records (Some t) None = omega arith
 length-temp_records (Some t) (Some s) = omega arith
 
-length-sample_records : (e : Element) (samples : Option (ℕ × ℕ)) → length (sample_records e samples) ≤ 18
-length-sample_records e None = omega arith
-length-sample_records e (Some s) = length-temp_records (temp_of e s.0) (temp_of e s.1)
+length-sample_records : (flow ret : Element) (samples : Option (ℕ × ℕ)) → length (sample_records flow ret samples) ≤ 18
+length-sample_records flow ret None = omega arith
+length-sample_records flow ret (Some s) = length-temp_records (temp_of flow s.0) (temp_of ret s.1)
 
 length-set_day_records : (c : Configuration) (e : Option (MonthEntry Register)) → length (set_day_records c e) ≤ 19
 length-set_day_records c None = omega arith
@@ -81,12 +81,12 @@ length-set_day_records c (Some e) = length-entry_records c 1 e
 pub length-first_records : (c : Configuration) (m : MeterRecord) → length (first_records c m) ≤ 56
 unfolding first_records
 length-first_records c m =
-    let samples = sample_records (nominal (1000000 * c.sensor_ohm)) m.samples in
+    let samples = sample_records (flow_element c) (return_element c) m.samples in
     join _ (set_day_records c m.set_day) 37 19
     (join _ (date_record 0 m.day) 32 5
     (join _ samples 14 18
     (join (energy_record c 0 m.register) (volume_record c 0 m.register) 7 7 (length-energy_record c 0 m.register) (length-volume_record c 0 m.register))
-    (length-sample_records (nominal (1000000 * c.sensor_ohm)) m.samples))
+    (length-sample_records (flow_element c) (return_element c) m.samples))
     (length-date_record 0 m.day))
     (length-set_day_records c m.set_day)
 

@@ -3,10 +3,10 @@ use Rattle.std.specs.Prelude.{ℕ, zero, suc, ◌+◌, ◌-◌, ◌*◌, ◌/◌
 use Rattle.std.specs.Int.{w16, to_le_bytes}
 use Rattle.std.specs.List.{fold}
 use Rattle.heat_model.specs.Heat.{Place, Flow, Return}
-use Rattle.platinum_model.specs.Element.{Element, nominal}
+use Rattle.platinum_model.specs.Element.{Element}
 use Rattle.calendar_model.specs.Entries.{MonthEntry}
 use Rattle.display_model.specs.Display.{shown_digits, energy_unit, volume_unit}
-use Rattle.config_model.specs.Configuration.{Configuration}
+use Rattle.config_model.specs.Configuration.{Configuration, flow_element, return_element}
 use Rattle.metering_model.specs.Counting.{is_in_range, whole_temp}
 use Rattle.metering_model.specs.Records.{Register, MeterRecord}
 use Rattle.frame_model.specs.Frames.{Frame, Ack, Short, Long}
@@ -68,9 +68,9 @@ abbrev pub temp_of : Element → ℕ → Option ℕ
 temp_of e sample = cond (is_in_range e sample) (Some (whole_temp e sample)) None
 
 -- the temperatures of the samples in force
-abbrev pub sample_records : Element → Option (ℕ × ℕ) → List ℕ
-sample_records e None = []
-sample_records e (Some s) = temp_records (temp_of e s.0) (temp_of e s.1)
+abbrev pub sample_records : (flow ret : Element) → Option (ℕ × ℕ) → List ℕ
+sample_records flow ret None = []
+sample_records flow ret (Some s) = temp_records (temp_of flow s.0) (temp_of ret s.1)
 
 -- the day of an entry, and what its register showed
 unfoldable pub entry_records : Configuration → ℕ → MonthEntry Register → List ℕ
@@ -98,7 +98,7 @@ unfoldable pub first_records : Configuration → MeterRecord → List ℕ
 first_records c m =
     energy_record c 0 m.register
     ++ volume_record c 0 m.register
-    ++ sample_records (nominal (1000000 * c.sensor_ohm)) m.samples
+    ++ sample_records (flow_element c) (return_element c) m.samples
     ++ date_record 0 m.day
     ++ set_day_records c m.set_day
 

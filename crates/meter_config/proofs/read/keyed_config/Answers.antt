@@ -3,7 +3,7 @@ use Rattle.std.specs.Prelude.{IsTrue}
 use Rattle.config_model.specs.Configuration.{is_sensor}
 use Rattle.pt_curve.specs.declared.sensor.Sensor.{Sensor}
 use Rattle.pt_curve.specs.declared.sensor.Sensor.TheVariants.{Pt100, Pt500, Pt1000}
-use Rattle.meter_config.specs.Views.{sensor_ohm}
+use Rattle.pt_curve.specs.Curve.{sensor_ohm}
 use Rattle.std.proofs.lemmas.Result.{err_from_is_err_and}
 use Rattle.accept_model.specs.Keys.{keys, key_names}
 use Rattle.accept_model.specs.Accepted.{said_by}
@@ -82,9 +82,15 @@ returns-in_err-opening_day-clause-said c =
     let p = err_from_is_err_and c.from_residual-in_err-opening_day.result c.from_residual-in_err-opening_day.ensures.1 in
     rw (p.1, p.2) (Refuses-whole c.in_err-opening_day.field-0.0 _ _ c.in_err-opening_day.ensures (λ f is. rw (c.in_ok-serial.ensures.said, c.in_ok-maker.ensures.said, c.in_ok-version.ensures.said, c.in_ok-address.ensures.said, c.in_ok-place.ensures, c.in_ok-pressure_kpa.ensures.said, c.in_ok-sensor.ensures, c.in_ok-per_pulse.ensures.said, c.in_ok-energy_decimals.ensures.said, c.in_ok-volume_decimals.ensures.said, c.in_ok-set_month.ensures.said, is) refl))
 
+pub returns-in_err-cal-clause-said : goal.returns-in_err-cal-clause-said
+unfolding said_by keys key_names
+returns-in_err-cal-clause-said c =
+    let p = err_from_is_err_and c.from_residual-in_err-cal.result c.from_residual-in_err-cal.ensures.1 in
+    rw (p.1, p.2) (Refuses-whole c.in_err-cal.field-0.0 _ _ c.in_err-cal.ensures.said (λ f is. rw (c.in_ok-serial.ensures.said, c.in_ok-maker.ensures.said, c.in_ok-version.ensures.said, c.in_ok-address.ensures.said, c.in_ok-place.ensures, c.in_ok-pressure_kpa.ensures.said, c.in_ok-sensor.ensures, c.in_ok-per_pulse.ensures.said, c.in_ok-energy_decimals.ensures.said, c.in_ok-volume_decimals.ensures.said, c.in_ok-set_month.ensures.said, c.in_ok-opening_day.ensures, is) refl))
+
 pub returns-clause-said : goal.returns-clause-said
 unfolding said_by keys key_names
-returns-clause-said c = rw (c.in_ok-serial.ensures.said, c.in_ok-maker.ensures.said, c.in_ok-version.ensures.said, c.in_ok-address.ensures.said, c.in_ok-place.ensures, c.in_ok-pressure_kpa.ensures.said, c.in_ok-sensor.ensures, c.in_ok-per_pulse.ensures.said, c.in_ok-energy_decimals.ensures.said, c.in_ok-volume_decimals.ensures.said, c.in_ok-set_month.ensures.said, c.in_ok-opening_day.ensures) refl
+returns-clause-said c = rw (c.in_ok-serial.ensures.said, c.in_ok-maker.ensures.said, c.in_ok-version.ensures.said, c.in_ok-address.ensures.said, c.in_ok-place.ensures, c.in_ok-pressure_kpa.ensures.said, c.in_ok-sensor.ensures, c.in_ok-per_pulse.ensures.said, c.in_ok-energy_decimals.ensures.said, c.in_ok-volume_decimals.ensures.said, c.in_ok-set_month.ensures.said, c.in_ok-opening_day.ensures, c.in_ok-cal.ensures.said) refl
 
 a_sensor : (s : Sensor) → IsTrue (is_sensor (sensor_ohm s))
 a_sensor Pt100 = refl
@@ -105,4 +111,5 @@ returns-clause-range c = record {
   volume_decimals = c.in_ok-volume_decimals.ensures.range.1;
   set_month = c.in_ok-set_month.ensures.range;
   opening_day = c.in_ok-opening_day.opening_day.in_century;
+  calibration = c.in_ok-cal.ensures.range;
 }
