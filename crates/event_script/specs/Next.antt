@@ -6,6 +6,7 @@ use Rattle.script_model.specs.Grammar as grammar
 use Rattle.script_model.specs.Grammar.{line_of}
 use Rattle.journal_model.specs.Faults.{Command, fault_of, has_no_end, is_open, max_line_len, max_lines}
 use Rattle.event_script.specs.declared.LineFault.{LineFault}
+use Rattle.event_script.specs.declared.LineFault.TheVariants.{Grammar, DateBack, PulsesFull, EventsFull, TooLong, TooMany, NotDry}
 use Rattle.event_script.specs.declared.next.Next.{Next}
 use Rattle.event_script.specs.declared.next.Next.TheVariants.{Got, Bad, End, ReadFault}
 use Rattle.event_script.specs.Views.{IsInRange, fault_view, line_view}
@@ -57,10 +58,20 @@ is_got (Bad kind) = false
 is_got End = false
 is_got ReadFault = false
 
--- the numbers of a line that was given are in their ranges
+-- a fault that a line has by itself, whatever the record in force
+abbrev pub IsOfLine : LineFault → Type 0
+IsOfLine (Grammar at) = Unit {0}
+IsOfLine (DateBack in_force) = ⊥
+IsOfLine (PulsesFull sum) = ⊥
+IsOfLine (EventsFull seq) = ⊥
+IsOfLine TooLong = Unit {0}
+IsOfLine TooMany = Unit {0}
+IsOfLine NotDry = ⊥
+
+-- the numbers of a line that was given are in their ranges, and one that was refused is so by itself
 abbrev pub GivesInRange : Next → Type 0
 GivesInRange (Got line) = IsInRange line
-GivesInRange (Bad kind) = Unit {0}
+GivesInRange (Bad kind) = IsOfLine kind
 GivesInRange End = Unit {0}
 GivesInRange ReadFault = Unit {0}
 

@@ -1,7 +1,7 @@
 //! What comes next in a script.
-ghost use Rattle.std.specs.Prelude.{◌≡◌, ◌≤◌, ◌↔◌, true, length, take, IsTrue, IfOk, MatchOption, MatchResult};
+ghost use Rattle.std.specs.Prelude.{◌≡◌, ◌≤◌, ◌↔◌, true, length, take, IsTrue, IfErr, IfOk, MatchOption, MatchResult};
 ghost use Rattle.journal_model.specs.Faults.{has_no_end, is_open};
-ghost use Rattle.event_script.specs.Next.{AreTooMany, Decides, IsRefusedFor, SaysAt};
+ghost use Rattle.event_script.specs.Next.{AreTooMany, Decides, IsOfLine, IsRefusedFor, SaysAt};
 ghost use Rattle.event_script.specs.Views.{IsInRange, line_view};
 
 use crate::words::place_of;
@@ -30,6 +30,7 @@ pub enum Next {
 pub(crate) fn judge(line: &[u8], given: u32) -> Result<Line, LineFault>
     ensures says { MatchResult result (λ said. SaysAt given line.now (line_view said)) (λ kind. IsRefusedFor given line.now kind) }
     ensures range { IfOk result IsInRange }
+    ensures kind { IfErr result IsOfLine }
 {
     if given >= MAX_LINES {
         return Err(LineFault::TooMany);

@@ -1,15 +1,18 @@
 -- Memories that are read, worked by hand: the standard configuration, the record of a new meter, a record with samples, a
 -- negative energy, a set day and two months, and some with one wrong byte.
-use Rattle.std.specs.Prelude.{◌≡◌, ℕ, List, [], ◌∷◌, ◌++◌, replicate, slice_set, pos, negsuc, Some, Ok, Err, refl}
+use Rattle.std.specs.Prelude.{◌≡◌, ℕ, List, [], ◌∷◌, ◌++◌, replicate, slice_set, pos, negsuc, None, Some, Ok, Err, refl}
 use Rattle.heat_model.specs.Heat.{Return}
 use Rattle.calendar_model.specs.Entries.{MonthEntry}
 use Rattle.calendar_model.proofs.Worked.{is_first_february, is_first_march, not_first, begun_february, begun_start_of_march, begun_march}
+use Rattle.platinum_model.specs.Element.{nominal}
 use Rattle.config_model.specs.Configuration.{Configuration}
 use Rattle.metering_model.specs.Records.{MeterRecord, Register, opening_record}
 use Rattle.memory_model.specs.Fields.{number, zero_bytes}
-use Rattle.memory_model.specs.Header.{header_fields, header_in, configuration_of}
+use Rattle.memory_model.specs.Header.{header_fields, header_in, configuration_of, constants_of}
 use Rattle.memory_model.specs.Slot.{record_in, record_of, record_fields, month_fields, month_keeps, set_day_keeps, months_of, samples_of, set_day_of, is_entry, entry_of, follows, goes_on, ends_right}
 use Rattle.memory_model.specs.Stored.{stored, A, B, Unformatted, Foreign, Holds}
+use Rattle.memory_model.specs.Slots as looks
+use Rattle.memory_model.specs.Slots.{look}
 
 -- ---- a record: its bytes
 
@@ -172,10 +175,11 @@ standard = record {
   volume_decimals = 2;
   set_month = 1;
   opening_day = 8780;
+  calibration = None;
 }
 
 standard_header : header_in (standard_text ++ replicate 232 0) ≡ Ok standard
-unfolding header_in header_fields configuration_of number zero_bytes
+unfolding header_in header_fields configuration_of constants_of number zero_bytes
 standard_header = refl
 
 -- one wrong byte: the offset of its field
@@ -239,21 +243,65 @@ wrong_opening_day : header_in (header_with 23 143) ≡ Err 22
 unfolding header_in header_fields configuration_of number zero_bytes
 wrong_opening_day = refl
 
-first_zero : header_in (header_with 24 1) ≡ Err 24
+neither_calibrated_nor_not : header_in (header_with 24 2) ≡ Err 24
+unfolding header_in header_fields configuration_of number zero_bytes
+neither_calibrated_nor_not = refl
+
+first_zero : header_in (header_with 25 1) ≡ Err 25
 unfolding header_in header_fields configuration_of number zero_bytes
 first_zero = refl
+
+-- constants of 0 fit no sensor, and only they stand where the sensors are not calibrated
+no_constants : header_in (header_with 24 1) ≡ Err 28
+unfolding header_in header_fields configuration_of number zero_bytes
+no_constants = refl
+
+flow_r0_of_1 : header_in (header_with 28 1) ≡ Err 28
+unfolding header_in header_fields configuration_of number zero_bytes
+flow_r0_of_1 = refl
+
+return_b_of_256 : header_in (header_with 49 1) ≡ Err 48
+unfolding header_in header_fields configuration_of number zero_bytes
+return_b_of_256 = refl
 
 last_zero : header_in (header_with 255 255) ≡ Err 255
 unfolding header_in header_fields configuration_of number zero_bytes
 last_zero = refl
 
+-- calibrated sensors: 501 ohms in the flow, the nominal constants in the return
+abbrev constants_text : List ℕ
+constants_text = 1 ∷ 0 ∷ 0 ∷ 0 ∷ 64 ∷ 167 ∷ 220 ∷ 29 ∷ 248 ∷ 91 ∷ 84 ∷ 2 ∷ 143 ∷ 22 ∷ 0 ∷ 0 ∷ 0 ∷ 101 ∷ 205 ∷ 29 ∷ 248 ∷ 91 ∷ 84 ∷ 2 ∷ 143 ∷ 22 ∷ 0 ∷ 0 ∷ []
+
+abbrev calibrated_text : List ℕ
+calibrated_text = standard_text ++ constants_text ++ replicate 204 0
+
+abbrev calibrated : Configuration
+calibrated = record standard { calibration = Some (record { r0_uohm = 501000000; a_e10 = 39083000; b_e10 = 5775 }, nominal 500000000) }
+
+calibrated_header : header_in calibrated_text ≡ Ok calibrated
+unfolding header_in header_fields configuration_of constants_of number zero_bytes
+calibrated_header = refl
+
+-- B of the flow 5,263 in place of 5,775, and bytes behind constants that are not 0
+low_flow_b : header_in (slice_set calibrated_text 37 20) ≡ Err 36
+unfolding header_in header_fields configuration_of number zero_bytes
+low_flow_b = refl
+
+behind_flow_b : header_in (slice_set calibrated_text 39 1) ≡ Err 39
+unfolding header_in header_fields configuration_of number zero_bytes
+behind_flow_b = refl
+
+behind_return_b : header_in (slice_set calibrated_text 50 1) ≡ Err 50
+unfolding header_in header_fields configuration_of number zero_bytes
+behind_return_b = refl
+
 -- any odd format, and any version
 odd_format : header_in (header_with 1 0x4b) ≡ Ok standard
-unfolding header_in header_fields configuration_of number zero_bytes
+unfolding header_in header_fields configuration_of constants_of number zero_bytes
 odd_format = refl
 
 other_version : header_in (header_with 9 255) ≡ Ok (record standard { version = 255 })
-unfolding header_in header_fields configuration_of number zero_bytes
+unfolding header_in header_fields configuration_of constants_of number zero_bytes
 other_version = refl
 
 -- ---- the memory of 16,384 bytes
@@ -276,50 +324,74 @@ opening_slot = refl
 
 -- slot A where the gate is even, and slot B where it is odd
 gate_0 : stored (memory_of header 0 (slot_text 0x4c 0x22) (slot_text 0x5d 0x22)) ≡ Holds standard (opening_record 8780) A
-unfolding record_in record_fields record_of number month_fields month_keeps set_day_keeps months_of samples_of set_day_of is_entry entry_of follows goes_on ends_right header_in header_fields configuration_of zero_bytes
+unfolding record_in record_fields record_of number month_fields month_keeps set_day_keeps months_of samples_of set_day_of is_entry entry_of follows goes_on ends_right header_in header_fields configuration_of constants_of zero_bytes
 gate_0 = refl
 
 gate_1 : stored (memory_of header 1 (slot_text 0x4c 0x22) (slot_text 0x5d 0x22)) ≡ Holds standard (opening_record 8797) B
-unfolding record_in record_fields record_of number month_fields month_keeps set_day_keeps months_of samples_of set_day_of is_entry entry_of follows goes_on ends_right header_in header_fields configuration_of zero_bytes
+unfolding record_in record_fields record_of number month_fields month_keeps set_day_keeps months_of samples_of set_day_of is_entry entry_of follows goes_on ends_right header_in header_fields configuration_of constants_of zero_bytes
 gate_1 = refl
 
 gate_5A : stored (memory_of header 0x5a (slot_text 0x4c 0x22) (slot_text 0x5d 0x22)) ≡ Holds standard (opening_record 8780) A
-unfolding record_in record_fields record_of number month_fields month_keeps set_day_keeps months_of samples_of set_day_of is_entry entry_of follows goes_on ends_right header_in header_fields configuration_of zero_bytes
+unfolding record_in record_fields record_of number month_fields month_keeps set_day_keeps months_of samples_of set_day_of is_entry entry_of follows goes_on ends_right header_in header_fields configuration_of constants_of zero_bytes
 gate_5A = refl
 
 gate_FF : stored (memory_of header 0xff (slot_text 0x4c 0x22) (slot_text 0x5d 0x22)) ≡ Holds standard (opening_record 8797) B
-unfolding record_in record_fields record_of number month_fields month_keeps set_day_keeps months_of samples_of set_day_of is_entry entry_of follows goes_on ends_right header_in header_fields configuration_of zero_bytes
+unfolding record_in record_fields record_of number month_fields month_keeps set_day_keeps months_of samples_of set_day_of is_entry entry_of follows goes_on ends_right header_in header_fields configuration_of constants_of zero_bytes
 gate_FF = refl
 
 -- the other slot is not looked at
 not_looked_at : stored (memory_of header 0 (slot_text 0x4c 0x22) (slot_text 0xff 0xff)) ≡ Holds standard (opening_record 8780) A
-unfolding record_in record_fields record_of number month_fields month_keeps set_day_keeps months_of samples_of set_day_of is_entry entry_of follows goes_on ends_right header_in header_fields configuration_of zero_bytes
+unfolding record_in record_fields record_of number month_fields month_keeps set_day_keeps months_of samples_of set_day_of is_entry entry_of follows goes_on ends_right header_in header_fields configuration_of constants_of zero_bytes
 not_looked_at = refl
 
 -- FF FF in bytes 520 and 521, and in 2056 and 2057
 foreign_in_A : stored (memory_of header 0 (slot_text 0xff 0xff) (slot_text 0x4c 0x22)) ≡ Foreign 520
-unfolding record_in record_fields record_of number month_fields month_keeps set_day_keeps months_of samples_of set_day_of is_entry entry_of follows goes_on ends_right header_in header_fields configuration_of zero_bytes
+unfolding record_in record_fields record_of number month_fields month_keeps set_day_keeps months_of samples_of set_day_of is_entry entry_of follows goes_on ends_right header_in header_fields configuration_of constants_of zero_bytes
 foreign_in_A = refl
 
 foreign_in_B : stored (memory_of header 1 (slot_text 0x4c 0x22) (slot_text 0xff 0xff)) ≡ Foreign 2056
-unfolding record_in record_fields record_of number month_fields month_keeps set_day_keeps months_of samples_of set_day_of is_entry entry_of follows goes_on ends_right header_in header_fields configuration_of zero_bytes
+unfolding record_in record_fields record_of number month_fields month_keeps set_day_keeps months_of samples_of set_day_of is_entry entry_of follows goes_on ends_right header_in header_fields configuration_of constants_of zero_bytes
 foreign_in_B = refl
 
 -- byte 11 is 02, whatever the slot holds
 foreign_header : stored (memory_of (header_with 11 2) 0 (slot_text 0xff 0xff) (slot_text 0xff 0xff)) ≡ Foreign 11
-unfolding record_in record_fields record_of number month_fields month_keeps set_day_keeps months_of samples_of set_day_of is_entry entry_of follows goes_on ends_right header_in header_fields configuration_of zero_bytes
+unfolding record_in record_fields record_of number month_fields month_keeps set_day_keeps months_of samples_of set_day_of is_entry entry_of follows goes_on ends_right header_in header_fields configuration_of constants_of zero_bytes
 foreign_header = refl
 
 -- byte 0 is 00, whatever stands behind it
 not_formatted : stored (memory_of (header_with 0 0) 0 (slot_text 0x4c 0x22) (slot_text 0x4c 0x22)) ≡ Unformatted 0
-unfolding record_in record_fields record_of number month_fields month_keeps set_day_keeps months_of samples_of set_day_of is_entry entry_of follows goes_on ends_right header_in header_fields configuration_of zero_bytes
+unfolding record_in record_fields record_of number month_fields month_keeps set_day_keeps months_of samples_of set_day_of is_entry entry_of follows goes_on ends_right header_in header_fields configuration_of constants_of zero_bytes
 not_formatted = refl
 
 other_mark : stored (memory_of (header_with 0 0x5a) 0 (slot_text 0x4c 0x22) (slot_text 0x4c 0x22)) ≡ Unformatted 0x5a
-unfolding record_in record_fields record_of number month_fields month_keeps set_day_keeps months_of samples_of set_day_of is_entry entry_of follows goes_on ends_right header_in header_fields configuration_of zero_bytes
+unfolding record_in record_fields record_of number month_fields month_keeps set_day_keeps months_of samples_of set_day_of is_entry entry_of follows goes_on ends_right header_in header_fields configuration_of constants_of zero_bytes
 other_mark = refl
 
 -- the record above in slot B
 held_in_B : stored (memory_of header 1 (replicate 1280 0) full_text) ≡ Holds standard full_record B
-unfolding record_in record_fields record_of number month_fields month_keeps set_day_keeps months_of samples_of set_day_of is_entry entry_of follows goes_on ends_right header_in header_fields configuration_of zero_bytes
+unfolding record_in record_fields record_of number month_fields month_keeps set_day_keeps months_of samples_of set_day_of is_entry entry_of follows goes_on ends_right header_in header_fields configuration_of constants_of zero_bytes
 held_in_B = rw (is_first_february, is_first_march, begun_february, begun_start_of_march, begun_march) refl
+
+-- ---- a look at both slots
+
+-- the new meter's slot in A, and the record above in B, after 7 events
+both_shown : look (memory_of header 1 (slot_text 0x4c 0x22) full_text) ≡ looks.Slots B (Ok 0) (Ok 7)
+unfolding record_in record_fields record_of number month_fields month_keeps set_day_keeps months_of samples_of set_day_of is_entry entry_of follows goes_on ends_right header_in header_fields configuration_of zero_bytes
+both_shown = rw (is_first_february, is_first_march, begun_february, begun_start_of_march, begun_march) refl
+
+-- the slot that isn't chosen is looked at too, and both may break a rule
+other_foreign : look (memory_of header 0x5a (slot_text 0x4c 0x22) (slot_text 0xff 0xff)) ≡ looks.Slots A (Ok 0) (Err 2056)
+unfolding record_in record_fields record_of number month_fields month_keeps set_day_keeps months_of samples_of set_day_of is_entry entry_of follows goes_on ends_right header_in header_fields configuration_of zero_bytes
+other_foreign = refl
+
+both_foreign : look (memory_of header 0xff (slot_text 0xff 0xff) (slot_text 0xff 0xff)) ≡ looks.Slots B (Err 520) (Err 2056)
+unfolding record_in record_fields record_of number month_fields month_keeps set_day_keeps months_of samples_of set_day_of is_entry entry_of follows goes_on ends_right header_in header_fields configuration_of zero_bytes
+both_foreign = refl
+
+no_header : look (memory_of (header_with 11 2) 0 (slot_text 0x4c 0x22) (slot_text 0x4c 0x22)) ≡ looks.Foreign 11
+unfolding record_in record_fields record_of number month_fields month_keeps set_day_keeps months_of samples_of set_day_of is_entry entry_of follows goes_on ends_right header_in header_fields configuration_of zero_bytes
+no_header = refl
+
+no_mark : look (memory_of (header_with 0 0x5a) 0 (slot_text 0x4c 0x22) (slot_text 0x4c 0x22)) ≡ looks.Unformatted 0x5a
+unfolding record_in record_fields record_of number month_fields month_keeps set_day_keeps months_of samples_of set_day_of is_entry entry_of follows goes_on ends_right header_in header_fields configuration_of zero_bytes
+no_mark = refl

@@ -1,9 +1,11 @@
 -- The header: the first 256 bytes of a memory, of which byte 0 is the mark.
-use Rattle.std.specs.Prelude.{ℕ, ◌%◌, ◌==◌, nat_le, if◌then◌else◌, List, [], ◌∷◌, Result}
+use Rattle.std.specs.Prelude.{ℕ, ◌+◌, ◌*◌, ◌%◌, ◌==◌, nat_le, Bool, if◌then◌else◌, List, [], ◌∷◌, ◌++◌, Option, None, Some, Result}
 use Rattle.std.specs.Int.{is_in_range}
 use Rattle.heat_model.specs.Heat.{Place, Flow, Return}
-use Rattle.config_model.specs.Configuration.{Configuration, is_capital, is_sensor, is_pulse}
-use Rattle.memory_model.specs.Fields.{Field, any, field, value, zero_byte, zero_bytes, first_broken, unless_broken}
+use Rattle.platinum_model.specs.Element.{Element}
+use Rattle.platinum_model.specs.Calibration.{fits_r0, fits_a, fits_b}
+use Rattle.config_model.specs.Configuration.{Configuration, both, is_capital, is_sensor, is_pulse}
+use Rattle.memory_model.specs.Fields.{Field, any, field, field_among, value, zero_byte, zero_bytes, first_broken, unless_broken}
 
 -- the format is any odd number
 abbrev pub format_field : Field
@@ -52,6 +54,38 @@ set_month_field = field 20 1 (is_in_range 1 12)
 abbrev pub opening_day_field : Field
 opening_day_field = field 22 2 (λ n. nat_le n 36524)
 
+-- ---- the constants of calibrated sensors
+
+-- 1 where the sensors are calibrated
+abbrev pub calibrated_field : Field
+calibrated_field = field 24 1 (λ n. nat_le n 1)
+
+abbrev pub are_calibrated : List ℕ → Bool
+are_calibrated bytes = value calibrated_field bytes == 1
+
+-- a constant that keeps its rule, or 0 where the sensors are not calibrated
+abbrev pub constant_field : (at size : ℕ) → (ℕ → List ℕ → Bool) → Field
+constant_field at size rule = field_among at size (λ n bytes. if are_calibrated bytes then rule n bytes else n == 0)
+
+abbrev pub r0_field : ℕ → Field
+r0_field at = constant_field at 4 (λ n bytes. fits_r0 (1000000 * value sensor_field bytes) n)
+
+abbrev pub a_field : ℕ → Field
+a_field at = constant_field at 4 (λ n bytes. fits_a n)
+
+abbrev pub b_field : ℕ → Field
+b_field at = constant_field at 2 (λ n bytes. fits_b n)
+
+-- R0, A and B of a sensor, in the 12 bytes from an offset on
+abbrev pub constants_fields : ℕ → List Field
+constants_fields at = r0_field at ∷ a_field (at + 4) ∷ b_field (at + 8) ∷ zero_byte (at + 10) ∷ zero_byte (at + 11) ∷ []
+
+unfoldable pub constants_of : ℕ → List ℕ → Option Element
+constants_of at bytes =
+    if are_calibrated bytes then Some (record { r0_uohm = value (r0_field at) bytes; a_e10 = value (a_field (at + 4)) bytes; b_e10 = value (b_field (at + 8)) bytes }) else None
+
+-- ---- all of it
+
 -- in the order in which they are checked
 unfoldable pub header_fields : List Field
 header_fields =
@@ -71,7 +105,13 @@ header_fields =
     ∷ set_month_field
     ∷ zero_byte 21
     ∷ opening_day_field
-    ∷ zero_bytes 24 232
+    ∷ calibrated_field
+    ∷ zero_byte 25
+    ∷ zero_byte 26
+    ∷ zero_byte 27
+    ∷ constants_fields 28
+    ++ constants_fields 40
+    ++ zero_bytes 52 204
 
 abbrev pub place_of : ℕ → Place
 place_of n = if n == 0 then Flow else Return
@@ -90,6 +130,7 @@ configuration_of bytes = record {
   volume_decimals = value volume_decimals_field bytes;
   set_month = value set_month_field bytes;
   opening_day = value opening_day_field bytes;
+  calibration = both (constants_of 28 bytes) (constants_of 40 bytes);
 }
 
 -- the configuration that the header's 256 bytes give, or the offset of the first field that breaks its rule

@@ -2,3 +2,4 @@ pub mod Fields
 pub mod Header
 pub mod Slot
 pub mod Stored
+pub mod Slots

@@ -5,6 +5,7 @@ ghost use Rattle.meter_board.specs.Causes.{HasCauses, one_more};
 use crate::arm::{Armed, Span};
 use crate::counts::raise;
 use crate::{Board, Failed, Refusal};
+use arrayvec::ArrayString;
 use std::fs::{File, OpenFile, OpenOptions};
 use std::io::{ErrorKind, Read, Seek, SeekFrom, Write};
 use std::rt::Files;
@@ -13,12 +14,19 @@ use std::{fs, io};
 /// How many bytes the file has.
 const MEMORY_LEN: u64 = 16_384;
 
+/// What the name of the file ends with while the file is made.
+const NEW: &str = ".new";
+
+/// The most bytes of that name.
+const NAME_ROOM: usize = 255;
+
 /// A board whose memory is a file and whose output is standard output. It tells nothing of their bytes.
 ///
-/// The first call on the memory opens the file, and makes one of zero bytes where there is none, whose bytes and
-/// whose name in its folder are settled at once. Where that fails it is taken away again. A file of another
-/// length, a folder, and a file that can't be opened are memory faults, and are left as they are. The file never
-/// takes the place of a standard stream that was closed; where there is no other descriptor, it is a memory fault.
+/// The first call on the memory opens the file, and makes one of zero bytes where there is none: whole under another
+/// name, which ends with `.new`, and then renamed, with its bytes and its name in its folder settled at once. Where that
+/// fails, the other name is taken away again. A file of another length, a folder, and a file that can't be opened are memory
+/// faults, and are left as they are. The file never takes the place of a standard stream that was closed; where there is no
+/// other descriptor, it is a memory fault.
 #[derive(Drop)]
 pub struct FileBoard<'a, R: Files + Print> {
     rt: &'a R,
@@ -153,42 +161,71 @@ impl<'a, R: Files + Print> FileBoard<'a, R> {
 
 // Opens the file of a memory, and makes it where there is none.
 fn open_memory<R: Files>(rt: &R, path: &str) -> io::Result<R::File> {
-    let mut how = OpenOptions::new();
-    how.read(true).write(true);
-    match how.open(rt, path) {
-        Ok(file) => {
-            if file.metadata()?.len() != MEMORY_LEN {
-                return Err(io::Error::from(ErrorKind::InvalidData));
-            }
-            above_streams(file)
-        }
+    match open_whole(rt, path) {
         Err(error) if error.kind() == ErrorKind::NotFound => {
-            how.create_new(true);
-            make_memory(rt, &how, path)
+            make_memory(rt, path)?;
+            open_whole(rt, path)
         }
-        Err(error) => Err(error),
+        answer => answer,
     }
 }
 
-// Makes the file of a memory, and takes it away again where it can't be made whole.
-fn make_memory<R: Files>(rt: &R, how: &OpenOptions, path: &str) -> io::Result<R::File> {
-    match settle_new(rt, path, how.open(rt, path)?) {
-        Ok(file) => Ok(file),
-        Err(error) => {
-            // The first error is the one that counts.
-            let _ = fs::remove_file(rt, path);
-            Err(error)
-        }
+// Opens the file of a memory, which has its length.
+fn open_whole<R: Files>(rt: &R, path: &str) -> io::Result<R::File> {
+    let file = OpenOptions::new().read(true).write(true).open(rt, path)?;
+    if file.metadata()?.len() != MEMORY_LEN {
+        return Err(io::Error::from(ErrorKind::InvalidData));
     }
+    above_streams(file)
 }
 
-// Gives a new file its bytes, and settles them and its name in its folder.
-fn settle_new<R: Files>(rt: &R, path: &str, file: R::File) -> io::Result<R::File> {
-    let file = above_streams(file)?;
+// Makes the file of a memory whole under another name, and renames it then: whenever the process is ended, the name is
+// not there, or is that of a whole file. What a process that was ended left under the other name is taken away.
+fn make_memory<R: Files>(rt: &R, path: &str) -> io::Result<()> {
+    let new = name_of_new(path)?;
+    let new = new.as_str();
+    match fs::remove_file(rt, new) {
+        Err(error) if error.kind() != ErrorKind::NotFound => return Err(error),
+        _ => (),
+    }
+    or_removed(rt, new, rename_whole(rt, new, path))?;
+    or_removed(rt, path, settle_name(rt, path))
+}
+
+// The name of the file while it is made: that of the memory, with this end.
+fn name_of_new(path: &str) -> io::Result<ArrayString<NAME_ROOM>> {
+    if path.len() + NEW.len() > NAME_ROOM {
+        return Err(io::Error::from(ErrorKind::InvalidFilename));
+    }
+    let mut new = ArrayString::new();
+    new.push_str(path);
+    new.push_str(NEW);
+    Ok(new)
+}
+
+// Makes a whole file, settles its bytes, and renames it where the name is free: also a link that leads nowhere stays.
+fn rename_whole<R: Files>(rt: &R, new: &str, path: &str) -> io::Result<()> {
+    let file = File::create_new(rt, new)?;
     file.set_len(MEMORY_LEN)?;
     file.sync_all()?;
-    File::open(rt, folder_of(path))?.sync_all()?;
-    Ok(file)
+    match fs::symlink_metadata(rt, path) {
+        Err(error) if error.kind() == ErrorKind::NotFound => fs::rename(rt, new, path),
+        Err(error) => Err(error),
+        Ok(_) => Err(io::Error::from(ErrorKind::AlreadyExists)),
+    }
+}
+
+// Settles the name of a file in its folder.
+fn settle_name<R: Files>(rt: &R, path: &str) -> io::Result<()> {
+    File::open(rt, folder_of(path))?.sync_all()
+}
+
+// What a step answered. Where it failed, the file of this name is taken away; the first error is the one that counts.
+fn or_removed<R: Files>(rt: &R, name: &str, answer: io::Result<()>) -> io::Result<()> {
+    if answer.is_err() {
+        let _ = fs::remove_file(rt, name);
+    }
+    answer
 }
 
 // A file that is opened takes the descriptor of a stream that was closed, and each read or write of that stream would

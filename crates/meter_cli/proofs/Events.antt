@@ -7,13 +7,15 @@ use Rattle.metering_model.specs.Events.{Event, Sample, Pulse, Date, Kept, pulses
 use Rattle.metering_model.specs.Counting.{counted_by}
 use Rattle.metering_model.specs.Records.{MeterRecord, Register, StandsFor, day_after}
 use Rattle.metering_model.specs.Integral.{AddsBy, AllFitClosely, FitsClosely, TakesEvent}
-use Rattle.metering_model.proofs.Joined.{fit-more, register_after-joined, day_after-joined}
+use Rattle.metering_model.specs.Near.{AreNear}
+use Rattle.metering_model.proofs.Joined.{fit-more, margin-of-closely, register_after-joined, day_after-joined}
 use Rattle.generator_model.specs.Generated.{event_at, draw_at}
 use Rattle.load_gen.proofs.Steps.{first_day}
 use Rattle.journal_model.specs.Faults.{event_fault}
 use Rattle.meter_core.proofs.Records.{fault_by_kind, no_pulse_fault, no_date_fault}
-use Rattle.run_engine.specs.Dry.{dry_opening, dry_settings}
-use Rattle.meter_cli.specs.Gen.{StandsForEvents, first_events}
+use Rattle.recovery_model.proofs.Bounded.{margin_is_near}
+use Rattle.run_engine.specs.Dry.{dry_configuration, dry_opening, dry_settings}
+use Rattle.meter_cli.specs.Gen.{KeepsEvents, StandsForEvents, first_events}
 
 -- the record took the first n events, so it has few pulses, and its day is early
 pub record Going (seed n : ℕ) (r : MeterRecord) : Type 0 where
@@ -111,3 +113,9 @@ module _ (seed n : ℕ) (r : MeterRecord) (g : Going seed n r) where
       few = few_next;
       early = early_next;
     }
+
+-- ---- all of them
+
+-- the energy of generated events is near their exact integral
+pub near : (seed n : ℕ) (kept : List Kept) → KeepsEvents seed n kept → AreNear dry_settings dry_opening kept
+near seed n kept keeps = margin_is_near dry_configuration dry_opening kept refl refl (margin-of-closely dry_settings dry_opening kept keeps.fits)

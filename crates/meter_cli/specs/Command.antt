@@ -9,7 +9,7 @@ use Rattle.pt_curve.specs.declared.sensor.Sensor.TheVariants.{Pt100, Pt500, Pt10
 use Rattle.sensor_pair.specs.declared.place.Place.{Place}
 use Rattle.sensor_pair.specs.declared.place.Place.TheVariants.{Flow, Return}
 use Rattle.meter_cli.specs.declared.job.Job.{Job}
-use Rattle.meter_cli.specs.declared.job.Job.TheVariants.{Init, Run, Dry, Show, Temp, Water, Coef, BenchCalc, BenchPair, BenchFlow, Gen, Cert, ReadMbus, ReadOptical}
+use Rattle.meter_cli.specs.declared.job.Job.TheVariants.{Init, Run, Dry, Show, Slots, Temp, Water, Coef, BenchCalc, BenchPair, BenchFlow, Gen, Cert, ReadMbus, ReadOptical}
 use Rattle.meter_cli.specs.declared.job.Usage.{Usage}
 
 -- the word is this text
@@ -86,7 +86,7 @@ read_words (kind ∷ words) = cond (is_text (codes "mbus") kind) (end_at 2 ReadM
 -- the command that words say, or the place of the first wrong, missing or extra word, from 0
 abbrev pub command_of : List (List ℕ) → Result Job ℕ
 command_of [] = Err 0
-command_of (name ∷ words) = cond (is_text (codes "init") name) (end_at 1 Init words) (cond (is_text (codes "run") name) (end_at 1 Run words) (cond (is_text (codes "dry") name) (end_at 1 Dry words) (cond (is_text (codes "show") name) (end_at 1 Show words) (cond (is_text (codes "temp") name) (temp_words words) (cond (is_text (codes "water") name) (water_words words) (cond (is_text (codes "k") name) (coef_words words) (cond (is_text (codes "bench") name) (bench_words words) (cond (is_text (codes "gen") name) (gen_words words) (cond (is_text (codes "cert") name) (cert_words words) (cond (is_text (codes "read") name) (read_words words) (Err 0)))))))))))
+command_of (name ∷ words) = cond (is_text (codes "init") name) (end_at 1 Init words) (cond (is_text (codes "run") name) (end_at 1 Run words) (cond (is_text (codes "dry") name) (end_at 1 Dry words) (cond (is_text (codes "show") name) (end_at 1 Show words) (cond (is_text (codes "slots") name) (end_at 1 Slots words) (cond (is_text (codes "temp") name) (temp_words words) (cond (is_text (codes "water") name) (water_words words) (cond (is_text (codes "k") name) (coef_words words) (cond (is_text (codes "bench") name) (bench_words words) (cond (is_text (codes "gen") name) (gen_words words) (cond (is_text (codes "cert") name) (cert_words words) (cond (is_text (codes "read") name) (read_words words) (Err 0))))))))))))
 
 -- the texts of the words
 abbrev pub texts : List (Bor (List ℕ)) → List (List ℕ)
@@ -106,6 +106,7 @@ IsInRange Init = Unit {0}
 IsInRange Run = Unit {0}
 IsInRange Dry = Unit {0}
 IsInRange Show = Unit {0}
+IsInRange Slots = Unit {0}
 IsInRange (Temp sensor r) = r ≤ 4294967295
 IsInRange (Water p t) = (1100 ≤ p) × (p ≤ 4000) × (t ≤ 180000000)
 IsInRange (Coef place p tf tr) = (1100 ≤ p) × (p ≤ 4000) × (tr + 10000 ≤ tf) × (tf ≤ 180000000)
@@ -123,6 +124,7 @@ PutsOneLine Init = ⊥
 PutsOneLine Run = ⊥
 PutsOneLine Dry = ⊥
 PutsOneLine Show = ⊥
+PutsOneLine Slots = ⊥
 PutsOneLine (Temp sensor r) = Unit {0}
 PutsOneLine (Water p t) = Unit {0}
 PutsOneLine (Coef place p tf tr) = Unit {0}
@@ -140,6 +142,7 @@ ReadsNothing Init = ⊥
 ReadsNothing Run = ⊥
 ReadsNothing Dry = ⊥
 ReadsNothing Show = Unit {0}
+ReadsNothing Slots = Unit {0}
 ReadsNothing (Temp sensor r) = Unit {0}
 ReadsNothing (Water p t) = Unit {0}
 ReadsNothing (Coef place p tf tr) = Unit {0}
@@ -156,6 +159,7 @@ abbrev pub UsesNoMemory : Job → Type 0
 UsesNoMemory Init = ⊥
 UsesNoMemory Run = ⊥
 UsesNoMemory Show = ⊥
+UsesNoMemory Slots = ⊥
 UsesNoMemory Dry = Unit {0}
 UsesNoMemory (Temp sensor r) = Unit {0}
 UsesNoMemory (Water p t) = Unit {0}

@@ -6,7 +6,7 @@ use Rattle.run_engine.specs.declared.Ended.{Ended}
 use Rattle.run_engine.specs.Dry.{EndsWithoutMemory}
 use Rattle.meter_cli.specs.Status.{status_of}
 use Rattle.meter_cli.specs.declared.job.Job.{Job}
-use Rattle.meter_cli.specs.declared.job.Job.TheVariants.{Init, Run, Dry, Show, Temp, Water, Coef, BenchCalc, BenchPair, BenchFlow, Gen, Cert, ReadMbus, ReadOptical}
+use Rattle.meter_cli.specs.declared.job.Job.TheVariants.{Init, Run, Dry, Show, Slots, Temp, Water, Coef, BenchCalc, BenchPair, BenchFlow, Gen, Cert, ReadMbus, ReadOptical}
 use Rattle.meter_cli.specs.declared.status.Status.{Status}
 use Rattle.meter_cli.specs.declared.status.Status.TheVariants.{Done, Config, Memory, Read, Write, Unformatted, Foreign, Formatted, OutOfMemory, Cut, NotRising, BadReadout}
 
@@ -43,6 +43,7 @@ EndsBy Init status = EndsText status ⊎ EndsFormat status
 EndsBy Run status = (ended : Ended) × (status ≡ status_of ended)
 EndsBy Dry status = (ended : Ended) × EndsWithoutMemory ended × (status ≡ status_of ended)
 EndsBy Show status = EndsShow status
+EndsBy Slots status = EndsShow status
 EndsBy (Temp sensor r) status = EndsLine status
 EndsBy (Water p t) status = EndsLine status
 EndsBy (Coef place p tf tr) status = EndsLine status

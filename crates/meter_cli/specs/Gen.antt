@@ -4,6 +4,7 @@ use Rattle.std.specs.Fmt.{decimal}
 use Rattle.metering_model.specs.Events.{Event, Kept}
 use Rattle.metering_model.specs.Records.{MeterRecord, StandsFor, record_after}
 use Rattle.metering_model.specs.Integral.{AllFitClosely}
+use Rattle.metering_model.specs.Near.{AreNear}
 use Rattle.generator_model.specs.Generated.{event_at}
 use Rattle.journal_model.specs.Texts.{shown}
 use Rattle.run_engine.specs.Dry.{dry_opening, dry_settings}
@@ -28,10 +29,11 @@ pub record StandsForEvents (seed n : ℕ) (r : MeterRecord) : Type 0 where
   pub keeps : KeepsEvents seed n kept
   pub stands : StandsFor dry_settings dry_opening kept r
 
--- `gen COUNT K VOL E B` of the record after these events
+-- `gen COUNT K VOL E B` of the record after these events. Their energy is near their exact integral.
 pub record IsGenText (seed count : ℕ) (text : List ℕ) : Type 0 where
   pub kept : List Kept
   pub keeps : KeepsEvents seed count kept
+  pub near : AreNear dry_settings dry_opening kept
   pub is : text ≡ codes "gen " ++ decimal count ++ codes " " ++ shown dry_settings (record_after dry_settings dry_opening kept) ++ codes "\n"
 
 -- what `gen` leaves

@@ -20,29 +20,37 @@ bytes_of texts = map (λ (text : ArrayString). text.bytes) texts
 abbrev pub NoneEmpty : List ArrayString → Type 0
 NoneEmpty texts = All (λ (text : ArrayString). 0 < length text.bytes) texts
 
--- the lines of the configuration and the record that the memory holds were put
-pub record Shows (memory : List ℕ) (old new : Trace) (status : Status) : Type 0 where
+-- these lines were put
+pub record ArePut (Are : List (List ℕ) → Type 0) (old new : Trace) (status : Status) : Type 0 where
+  pub lines : List (List ℕ)
+  pub are : Are lines
+  pub puts : PutsLines lines old new status
+
+-- what each status leaves of a command that puts lines of what the memory reads, or finds it unformatted or foreign
+abbrev pub LookLeaves : (Are : List (List ℕ) → Type 0) (IsUnformatted IsForeign : ℕ → Type 0) (old new : Trace) → Status → Type 0
+LookLeaves Are IsUnformatted IsForeign old new Done = ArePut Are old new Done
+LookLeaves Are IsUnformatted IsForeign old new (Usage word) = ⊥
+LookLeaves Are IsUnformatted IsForeign old new (Config fault) = ⊥
+LookLeaves Are IsUnformatted IsForeign old new (Line n kind) = ⊥
+LookLeaves Are IsUnformatted IsForeign old new Memory = new ≡ old
+LookLeaves Are IsUnformatted IsForeign old new Read = ⊥
+LookLeaves Are IsUnformatted IsForeign old new Write = ArePut Are old new Write
+LookLeaves Are IsUnformatted IsForeign old new (Unformatted byte) = IsUnformatted byte × (new ≡ old)
+LookLeaves Are IsUnformatted IsForeign old new (Foreign at) = IsForeign at × (new ≡ old)
+LookLeaves Are IsUnformatted IsForeign old new Formatted = ⊥
+LookLeaves Are IsUnformatted IsForeign old new OutOfMemory = ⊥
+LookLeaves Are IsUnformatted IsForeign old new Cut = ⊥
+LookLeaves Are IsUnformatted IsForeign old new (NotRising segment) = ⊥
+LookLeaves Are IsUnformatted IsForeign old new (BadReadout at) = ⊥
+
+-- the lines of the configuration and the record that the memory holds
+pub record AreMemoryLines (memory : List ℕ) (lines : List (List ℕ)) : Type 0 where
   pub c : Configuration
   pub r : MeterRecord
   pub side : Side
   pub held : stored memory ≡ Holds c r side
-  pub lines : List (List ℕ)
   pub are : AreShowLines c r lines
-  pub puts : PutsLines lines old new status
 
--- what each status leaves, where the memory read this
+-- what `show` leaves, where the memory read this
 abbrev pub ShowLeaves : (memory : List ℕ) (old new : Trace) → Status → Type 0
-ShowLeaves memory old new Done = Shows memory old new Done
-ShowLeaves memory old new (Usage word) = ⊥
-ShowLeaves memory old new (Config fault) = ⊥
-ShowLeaves memory old new (Line n kind) = ⊥
-ShowLeaves memory old new Memory = new ≡ old
-ShowLeaves memory old new Read = ⊥
-ShowLeaves memory old new Write = Shows memory old new Write
-ShowLeaves memory old new (Unformatted byte) = (stored memory ≡ model.Unformatted byte) × (new ≡ old)
-ShowLeaves memory old new (Foreign at) = (stored memory ≡ model.Foreign at) × (new ≡ old)
-ShowLeaves memory old new Formatted = ⊥
-ShowLeaves memory old new OutOfMemory = ⊥
-ShowLeaves memory old new Cut = ⊥
-ShowLeaves memory old new (NotRising segment) = ⊥
-ShowLeaves memory old new (BadReadout at) = ⊥
+ShowLeaves memory = LookLeaves (AreMemoryLines memory) (λ byte. stored memory ≡ model.Unformatted byte) (λ at. stored memory ≡ model.Foreign at)

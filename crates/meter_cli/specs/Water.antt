@@ -16,7 +16,7 @@ pub record AreDecimalEnds (e : ℕ) (lo hi : ℤ) (x : Fraction) : Type 0 where
   pub width : hi ≤ℤ (lo +ℤ pos 1002)
 
 -- The ends of the volume in 10^-15 m³/kg and of the enthalpy in 10^-9 kJ/kg, at p kPa and t microdegrees Celsius. They are at
--- most 78 and 38 apart.
+-- most 269 and 28 apart.
 pub record IsWaterText (p t : ℕ) (text : List ℕ) : Type 0 where
   pub v_lo : ℤ
   pub v_hi : ℤ
@@ -25,8 +25,8 @@ pub record IsWaterText (p t : ℕ) (text : List ℕ) : Type 0 where
   pub is : text ≡ codes "v " ++ signed_decimal v_lo ++ codes " " ++ signed_decimal v_hi ++ codes " h " ++ signed_decimal h_lo ++ codes " " ++ signed_decimal h_hi ++ codes "\n"
   pub volume_ends : AreDecimalEnds 15 v_lo v_hi (volume p (microdegrees t))
   pub enthalpy_ends : AreDecimalEnds 9 h_lo h_hi (enthalpy p (microdegrees t))
-  pub volume_closer : v_hi ≤ℤ (v_lo +ℤ pos 78)
-  pub enthalpy_closer : h_hi ≤ℤ (h_lo +ℤ pos 38)
+  pub volume_closer : v_hi ≤ℤ (v_lo +ℤ pos 269)
+  pub enthalpy_closer : h_hi ≤ℤ (h_lo +ℤ pos 28)
 
 -- what `water` leaves
 pub record WaterLeaves (p t : ℕ) (old new : Trace) (status : Status) : Type 0 where

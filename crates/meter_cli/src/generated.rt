@@ -37,6 +37,7 @@ pub fn generate<B: Board>(board: &mut B, seed: u64, count: u32) -> Status
     put_line(board, line.as_str().as_bytes())
 }
 
+#[tactic(auto, using(crate::proofs::Events::near))]
 fn gen_line(seed: u64, count: u32) -> ArrayString<LINE_ROOM>
     requires { count ≤ 1000000 }
     ensures text { IsGenText seed count result.bytes }

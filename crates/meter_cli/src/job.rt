@@ -20,6 +20,8 @@ pub enum Job {
     Dry,
     /// `show`: put what the memory holds.
     Show,
+    /// `slots`: put what stands in both slots of the memory, whichever of them holds the record in force.
+    Slots,
     /// `temp R0 R`: the whole temperature that a sample of `r` microohms of this sensor stands for.
     Temp {
         sensor: Sensor,
@@ -148,6 +150,8 @@ pub fn command(words: &[&str]) -> Result<Job, Usage>
         alone(rest, Job::Dry)
     } else if name.as_bytes() == b"show".as_slice() {
         alone(rest, Job::Show)
+    } else if name.as_bytes() == b"slots".as_slice() {
+        alone(rest, Job::Slots)
     } else if name.as_bytes() == b"temp".as_slice() {
         temp(rest)
     } else if name.as_bytes() == b"water".as_slice() {

@@ -27,6 +27,9 @@ mod show;
 mod show_lines;
 #[cfg(test)]
 mod silence_tests;
+mod slots;
+#[cfg(test)]
+mod slots_tests;
 mod status;
 #[cfg(test)]
 mod tests;

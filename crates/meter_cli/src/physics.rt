@@ -2,6 +2,7 @@
 ghost use Rattle.std.specs.Prelude.{◌≡◌, ◌⊎◌, ◌*◌, ◌+◌, ◌-◌, ◌^◌, ◌<◌, ◌≤◌, ◌++◌, pos, ◌*ℤ◌, length, codes};
 ghost use Rattle.std.specs.Fmt.{signed_decimal};
 ghost use Rattle.number_model.specs.Rounding.{floor_div, ceil_div};
+ghost use Rattle.pt_curve.specs.Curve.{element};
 ghost use Rattle.meter_board.specs.Causes.{Rose};
 ghost use Rattle.sensor_pair.specs.Place.{place_view};
 ghost use Rattle.meter_cli.specs.Coef.{CoefLeaves, IsCoefText};
@@ -48,14 +49,30 @@ fn temp_line(sensor: Sensor, r: u32) -> ArrayString<TEMP_ROOM>
     ensures text { IsTempText (element_of sensor) r result.bytes }
     ensures some { 0 < length result.bytes }
 {
-    let mut line = ArrayString::new();
-    match Curve::nominal(sensor).whole_temp(r) {
-        None => line.push_str("out"),
-        Some(udeg) => {
-            let mut digits = Buffer::new();
-            line.push_str(digits.format(udeg));
-        }
+    let curve = Curve::nominal(sensor);
+    sample_line(&curve, r)
+}
+
+// The line of a sample of a sensor with this curve.
+fn sample_line(curve: &Curve, r: u32) -> ArrayString<TEMP_ROOM>
+    ensures text { IsTempText (element curve.now) r result.bytes }
+    ensures some { 0 < length result.bytes }
+{
+    let mut digits = Buffer::new();
+    match curve.whole_temp(r) {
+        None => ended("out"),
+        Some(udeg) => ended(digits.format(udeg)),
     }
+}
+
+// A text with the end of its line.
+fn ended(text: &str) -> ArrayString<TEMP_ROOM>
+    requires { length text.now ≤ 40 }
+    ensures text { result.bytes ≡ text.now ++ codes "\n" }
+    ensures some { 0 < length result.bytes }
+{
+    let mut line = ArrayString::new();
+    line.push_str(text);
     line.push_str("\n");
     line
 }

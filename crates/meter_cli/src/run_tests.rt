@@ -23,7 +23,7 @@ const SHOW: [&str; 1] = ["show"];
 const FIRST_DAY: Day = Day { number: 8_780 };
 
 // A board over this image of its memory.
-fn board_over(rt: &impl AllocGlobal, image: &[u8]) -> Result<SimBoard, Fail>
+pub(crate) fn board_over(rt: &impl AllocGlobal, image: &[u8]) -> Result<SimBoard, Fail>
     ensures fresh { IfOk result (λ b. IsFresh (sim_trace b)) }
     ensures settled { IfOk result (λ b. NothingPending (sim_trace b)) }
 {

@@ -32,28 +32,43 @@ fn failing_board(rt: &impl AllocGlobal) -> Result<SimBoard, Fail>
     Ok(board)
 }
 
-// These words are done on this script with this output, and the memory reads what it did.
-fn is_done(
+// The output of these words on this script, where they are done and the memory reads what it did.
+fn output_of(
     rt: &(impl Abort + AllocGlobal),
     words: &[&str],
     script: &str,
-    output: &str,
-) -> Result<(), Fail> {
+) -> Result<String, Fail> {
     let mut board = failing_board(rt)?;
     let mut source = SliceSource::new(script.as_bytes(), 64);
     assert_eq!(rt;
         meter(rt.alloc(), words, &mut source, &mut board),
         Status::Done
     );
-    assert!(rt; board.output().eq(output.bytes()));
     assert!(rt; board.image() == IMAGE.as_slice());
+    let bytes: Vec<u8> = board.output().collect(rt.alloc())?;
+    Ok(String::from_str(rt.alloc(), std::str::from_utf8(&bytes)?)?)
+}
+
+// These words are done on this script with this output.
+fn is_done(
+    rt: &(impl Abort + AllocGlobal),
+    words: &[&str],
+    script: &str,
+    output: &str,
+) -> Result<(), Fail> {
+    let written = output_of(rt, words, script)?;
+    assert_eq!(rt; written.as_str(), output);
     Ok(())
 }
 
 // A memory call of these would be a memory fault.
 #[test]
 fn calls_on_this_memory_are_faults(rt: HostRuntime) -> Result<(), Fail> {
-    for words in [["run"].as_slice(), ["show"].as_slice()] {
+    for words in [
+        ["run"].as_slice(),
+        ["show"].as_slice(),
+        ["slots"].as_slice(),
+    ] {
         let mut board = failing_board(&rt)?;
         let mut source = SliceSource::new(b"", 1);
         assert_eq!(&rt;
@@ -74,23 +89,43 @@ fn a_script_is_metered_without_memory(rt: HostRuntime) -> Result<(), Fail> {
     )
 }
 
-// The ends of `water` and `k` are the exact values, computed apart from this code with 60 decimals, rounded outwards.
 #[test]
-fn physics_is_answered_without_memory(rt: HostRuntime) -> Result<(), Fail> {
+fn temperatures_are_answered_without_memory(rt: HostRuntime) -> Result<(), Fail> {
     is_done(&rt, &["temp", "500", "596985625"], "", "50000000\n")?;
-    is_done(&rt, &["temp", "500", "500000000"], "", "out\n")?;
-    is_done(
-        &rt,
-        &["water", "3000", "26850000"],
-        "",
-        "v 1002151679686 1002151679687 h 115331273021 115331273022\n",
-    )?;
-    is_done(
-        &rt,
-        &["k", "return", "1600", "60000000", "50000000"],
-        "",
-        "k 4130381814 4130381815\n",
-    )
+    is_done(&rt, &["temp", "500", "500000000"], "", "out\n")
+}
+
+// The exact values, computed apart from this code with 60 decimals: their whole parts are 1002151679686 and 115331273021
+#[test]
+fn water_is_answered_without_memory(rt: HostRuntime) -> Result<(), Fail> {
+    let line = output_of(&rt, &["water", "3000", "26850000"], "")?;
+    let mut words = line.as_str().split_whitespace();
+    assert_eq!(&rt; words.next(), Some("v"));
+    let lo = words.next().ok_or("no number")?.parse::<i128>()?;
+    let hi = words.next().ok_or("no number")?.parse::<i128>()?;
+    assert!(&rt; lo <= 1_002_151_679_686);
+    assert!(&rt; 1_002_151_679_687 <= hi && hi <= lo + 269);
+    assert_eq!(&rt; words.next(), Some("h"));
+    let lo = words.next().ok_or("no number")?.parse::<i128>()?;
+    let hi = words.next().ok_or("no number")?.parse::<i128>()?;
+    assert_eq!(&rt; words.next(), None);
+    assert!(&rt; lo <= 115_331_273_021);
+    assert!(&rt; 115_331_273_022 <= hi && hi <= lo + 28);
+    Ok(())
+}
+
+// The exact value, computed apart from this code with 60 decimals, lies between 4130381814 and 4130381815.
+#[test]
+fn coefficients_are_answered_without_memory(rt: HostRuntime) -> Result<(), Fail> {
+    let line = output_of(&rt, &["k", "return", "1600", "60000000", "50000000"], "")?;
+    let mut words = line.as_str().split_whitespace();
+    assert_eq!(&rt; words.next(), Some("k"));
+    let lo = words.next().ok_or("no number")?.parse::<i128>()?;
+    let hi = words.next().ok_or("no number")?.parse::<i128>()?;
+    assert_eq!(&rt; words.next(), None);
+    assert!(&rt; lo <= 4_130_381_814);
+    assert!(&rt; 4_130_381_815 <= hi && hi <= lo + 52);
+    Ok(())
 }
 
 #[test]

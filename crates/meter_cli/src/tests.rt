@@ -82,6 +82,13 @@ fn dry_shows(
         meter(rt.alloc(), &DRY, &mut source, &mut board),
         Status::Done
     );
+    shown_on(rt, &board)
+}
+
+fn shown_on(
+    rt: &(impl Abort + AllocGlobal),
+    board: &SimBoard,
+) -> Result<Vec<(u64, u64, i64, u64)>, Fail> {
     let bytes: Vec<u8> = board.output().collect(rt.alloc())?;
     let mut shown = Vec::new(rt.alloc());
     for line in std::str::from_utf8(&bytes)?.lines() {
@@ -296,6 +303,40 @@ fn a_memory_is_formatted_once(rt: HostRuntime) -> Result<(), Fail> {
     Ok(())
 }
 
+// A Pt500 of 501 ohms at 0 °C in the flow.
+const CALIBRATION: &str =
+    ",\"calibration\":{\"flow_r0\":501000000,\"flow_a\":39083000,\"flow_b\":5775,\"return_r0\":500000000,\"return_a\":39083000,\"return_b\":5775}}";
+
+// 617.441919 ohms of that sensor are 60 °C, so a litre gives off what it does between nominal sensors at 60 and 50 °C.
+#[test]
+fn calibrated_sensors_are_read_by_their_constants(rt: HostRuntime) -> Result<(), Fail> {
+    let text = DEFAULT.replace(rt.alloc(), "}", CALIBRATION)?;
+    let empty = board(&rt)?;
+    let (status, made) = init_answers(&rt, text.as_bytes(), empty.image(), b"init 12345678\n")?;
+    assert_eq!(&rt; status, Status::Done);
+    let mut board = board_over(&rt, made.image())?;
+    let mut source = SliceSource::new(b"sample 617441919 596985625\npulse 100\n", 64);
+    assert_eq!(&rt;
+        meter(rt.alloc(), &["run"], &mut source, &mut board),
+        Status::Done
+    );
+    let shown = shown_on(&rt, &board)?;
+    assert_eq!(&rt; shown.len(), 2);
+    let (_, _, energy, bound) = shown[1];
+    assert_eq!(&rt; shown[0], (1, 0, 0, 0));
+    assert_eq!(&rt; shown[1], (2, 1000, energy, bound));
+    assert!(&rt; 41_000_000_000 <= energy && energy <= 41_700_000_000);
+    assert!(&rt; bound <= 1_500_000);
+    Ok(())
+}
+
+#[test]
+fn constants_that_do_not_fit_are_refused(rt: HostRuntime) -> Result<(), Fail> {
+    let calibration = CALIBRATION.replace(rt.alloc(), "\"flow_b\":5775", "\"flow_b\":5499")?;
+    let text = DEFAULT.replace(rt.alloc(), "}", &calibration)?;
+    refused(&rt, text.as_bytes(), ConfigFault::Wrong { key: 12 })
+}
+
 // The text is refused with this fault, and the memory stays as it was.
 fn refused(rt: &(impl Abort + AllocGlobal), text: &[u8], fault: ConfigFault) -> Result<(), Fail> {
     let empty = board(rt)?;
@@ -332,6 +373,11 @@ fn a_memory_is_shown(rt: HostRuntime) -> Result<(), Fail> {
     assert_eq!(&rt;
         show_answers(&rt, board.image(), b"")?,
         Status::Foreign { at: 520 }
+    );
+    assert_eq!(&rt; board.store(28, &[1]), Ok(()));
+    assert_eq!(&rt;
+        show_answers(&rt, board.image(), b"")?,
+        Status::Foreign { at: 28 }
     );
     assert_eq!(&rt; board.store(11, &[2]), Ok(()));
     assert_eq!(&rt;
@@ -640,7 +686,8 @@ fn refused_texts_have_texts(rt: HostRuntime) {
             "config: missing litres_per_pulse",
         ),
         (ConfigFault::Wrong { key: 3 }, "config: wrong address"),
-        (ConfigFault::Wrong { key: 12 }, "config: wrong "),
+        (ConfigFault::Wrong { key: 12 }, "config: wrong calibration"),
+        (ConfigFault::Wrong { key: 13 }, "config: wrong "),
         (ConfigFault::Unknown { place: 12 }, "config: unknown key 12"),
         (ConfigFault::OutOfMemory, "out of memory"),
     ] {

@@ -1,9 +1,11 @@
 //! What the program does.
-ghost use Rattle.std.specs.Prelude.{◌≡◌, ◌≢◌, ◌⊎◌, ◌↔◌, ◌+◌, ◌-◌, ◌^◌, ◌≤◌, ℕ, [], length, min, slice_index, Ok, Err};
+ghost use Rattle.std.specs.Prelude.{◌≡◌, ◌≢◌, ◌⊎◌, ◌↔◌, ◌+◌, ◌-◌, ◌^◌, ◌≤◌, ℕ, [], length, min, slice_index, Ok, Err, Result};
 ghost use Rattle.script_model.specs.Lines.{lines_of};
 ghost use Rattle.config_model.specs.Configuration.{Configuration};
 ghost use Rattle.metering_model.specs.Records.{MeterRecord};
 ghost use Rattle.accept_model.specs.Accepted.{accepted};
+ghost use Rattle.memory_model.specs.Slots as slots;
+ghost use Rattle.memory_model.specs.Slots.{look};
 ghost use Rattle.memory_model.specs.Stored.{Foreign, Holds, Side, Unformatted, mark, stored};
 ghost use Rattle.trace_model.specs.Trace.{IsFresh, Trace, base_of};
 ghost use Rattle.trace_model.specs.Moments.{IsPrefix, Leaves};
@@ -29,6 +31,7 @@ ghost use Rattle.meter_cli.specs.Puts.{PutsLine};
 ghost use Rattle.meter_cli.specs.Read.{ReadAnswers, ReadLeaves, read_status};
 ghost use Rattle.meter_cli.specs.ReadLines.{AreMessageLines, AreTelegramLines};
 ghost use Rattle.meter_cli.specs.Show.{ShowLeaves};
+ghost use Rattle.meter_cli.specs.Slots.{SlotsLeaves};
 ghost use Rattle.meter_cli.specs.Status.{DryLeaves, IsDoneOrLine, RunEnds, status_of};
 ghost use Rattle.meter_cli.specs.Temp.{TempLeaves};
 ghost use Rattle.meter_cli.specs.Water.{WaterLeaves};
@@ -44,6 +47,7 @@ use crate::init::init;
 use crate::job::{Job, command};
 use crate::physics::{coef, temp, water};
 use crate::show::show;
+use crate::slots::slots;
 use crate::status::Status;
 use crate::{bench, readout};
 use meter_board::{Board, Source};
@@ -101,6 +105,13 @@ pub fn meter<S: Source, B: Board>(
     ensures show_foreign { (at : ℕ) → command_of (texts words.now) ≡ Ok Job.Show → B.tells → stored (B.reads board.old) ≡ Foreign at → (result ≡ Status.Foreign at) ⊎ (result ≡ Status.Memory) }
     ensures show_complete { (c : Configuration) (r : MeterRecord) (side : Side) → command_of (texts words.now) ≡ Ok Job.Show → B.tells → stored (B.reads board.old) ≡ Holds c r side → ¬ Rose (B.memory_faults board.old) (B.memory_faults board.new) → ¬ Rose (B.output_faults board.old) (B.output_faults board.new) → result ≡ Status.Done }
 
+    // What `slots` leaves. Unformatted and Foreign come exactly where the first byte is not the mark, and where a field of
+    // the header breaks its rule, but for a fault before them.
+    ensures slots_leaves { command_of (texts words.now) ≡ Ok Job.Slots → B.tells → SlotsLeaves (B.reads board.old) (B.trace board.old) (B.trace board.new) result }
+    ensures slots_unformatted { (byte : ℕ) → command_of (texts words.now) ≡ Ok Job.Slots → B.tells → look (B.reads board.old) ≡ slots.Unformatted byte → (result ≡ Status.Unformatted byte) ⊎ (result ≡ Status.Memory) }
+    ensures slots_foreign { (at : ℕ) → command_of (texts words.now) ≡ Ok Job.Slots → B.tells → look (B.reads board.old) ≡ slots.Foreign at → (result ≡ Status.Foreign at) ⊎ (result ≡ Status.Memory) }
+    ensures slots_complete { (gate : Side) (a b : Result ℕ ℕ) → command_of (texts words.now) ≡ Ok Job.Slots → B.tells → look (B.reads board.old) ≡ slots.Slots gate a b → ¬ Rose (B.memory_faults board.old) (B.memory_faults board.new) → ¬ Rose (B.output_faults board.old) (B.output_faults board.new) → result ≡ Status.Done }
+
     // The commands that put one line are done unless the output failed.
     ensures temp { (sensor : Sensor) (r : ℕ) → command_of (texts words.now) ≡ Ok (Job.Temp sensor r) → B.tells → TempLeaves sensor r (B.trace board.old) (B.trace board.new) result }
     ensures water { (p t : ℕ) → command_of (texts words.now) ≡ Ok (Job.Water p t) → B.tells → WaterLeaves p t (B.trace board.old) (B.trace board.new) result }
@@ -132,14 +143,14 @@ pub fn meter<S: Source, B: Board>(
     ensures read_optical_reads { command_of (texts words.now) ≡ Ok Job.ReadOptical → S.tells → length (S.left source.old) ≤ length (S.left source.new) + 2049 }
     ensures read_optical_untouched { command_of (texts words.now) ≡ Ok Job.ReadOptical → EndsUnread result → board.new ≡ board.old }
 
-    // The commands that put one line, `cert` and `show` read nothing.
+    // The commands that put one line, `cert`, `show` and `slots` read nothing.
     ensures unread { (job : Job) → command_of (texts words.now) ≡ Ok job → ReadsNothing job → source.new ≡ source.old }
 
     // Nor does `run` where the memory is unformatted or foreign; a board that tells has no such memory later on.
     ensures run_unformatted { (byte : ℕ) → command_of (texts words.now) ≡ Ok Job.Run → S.tells → B.tells → result ≡ Status.Unformatted byte → source.new ≡ source.old }
     ensures run_foreign { (at : ℕ) → command_of (texts words.now) ≡ Ok Job.Run → S.tells → B.tells → result ≡ Status.Foreign at → source.new ≡ source.old }
 
-    // But for `init`, `run` and `show`, no command makes a call on the memory, not even one that leaves no trace.
+    // But for `init`, `run`, `show` and `slots`, no command makes a call on the memory, not even one that leaves no trace.
     ensures memory_untouched { (job : Job) → command_of (texts words.now) ≡ Ok job → UsesNoMemory job → B.memory_calls board.new ≡ B.memory_calls board.old }
 
     // Each command has its own statuses.
@@ -159,6 +170,7 @@ pub fn meter<S: Source, B: Board>(
         Err(usage) => Status::Usage { word: usage.word },
         Ok(Job::Init) => init(alloc, source, board),
         Ok(Job::Show) => show(board),
+        Ok(Job::Slots) => slots(board),
         Ok(Job::Run) => status_from(run(source, board)),
         Ok(Job::Dry) => status_from(dry(source, board)),
         Ok(Job::Temp { sensor, r }) => temp(board, sensor, r),

@@ -1,4 +1,3 @@
-pub mod Parts
 pub mod Offsets
 pub mod FormatMoments
 pub mod CommitMoments

@@ -1,4 +1,6 @@
 pub mod Faults
+pub mod Loads
+pub mod Looks
 pub mod Recovered
 pub mod Works
 pub mod Formatted

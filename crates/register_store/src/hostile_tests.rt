@@ -26,6 +26,8 @@ enum Rule {
     Among(u128, u128, u128, u128),
     /// Zero, unless the byte is 1.
     ZeroWithout(u16),
+    /// From the first to the second where byte 24 is 1, else zero.
+    Constant(u128, u128),
     /// At most 10^15, and at least the 8 bytes.
     NotBelow(u16),
     /// In two's complement, at most 2 * 10^12 either way for each of the 8 bytes.
@@ -57,6 +59,24 @@ const HEADER: [Field; 16] = [
     (20, 1, Rule::From(1, 12)),
     (21, 1, Rule::Zero),
     (22, 2, Rule::From(0, 36_524)),
+];
+
+/// The constants of sensors of 500 ohms.
+const CALIBRATION: [Field; 14] = [
+    (24, 1, Rule::From(0, 1)),
+    (25, 1, Rule::Zero),
+    (26, 1, Rule::Zero),
+    (27, 1, Rule::Zero),
+    (28, 4, Rule::Constant(497_500_000, 502_500_000)),
+    (32, 4, Rule::Constant(38_800_000, 39_400_000)),
+    (36, 2, Rule::Constant(5_500, 6_000)),
+    (38, 1, Rule::Zero),
+    (39, 1, Rule::Zero),
+    (40, 4, Rule::Constant(497_500_000, 502_500_000)),
+    (44, 4, Rule::Constant(38_800_000, 39_400_000)),
+    (48, 2, Rule::Constant(5_500, 6_000)),
+    (50, 1, Rule::Zero),
+    (51, 1, Rule::Zero),
 ];
 
 const RECORD: [Field; 12] = [
@@ -159,6 +179,8 @@ fn keeps(field: &Field, bytes: &[u8]) -> bool {
         Rule::From(low, high) => low <= n && n <= high,
         Rule::Among(a, b, c, d) => n == a || n == b || n == c || n == d,
         Rule::ZeroWithout(flag) => n == 0 || number(bytes, flag, 1) == 1,
+        Rule::Constant(least, most) if number(bytes, 24, 1) == 1 => least <= n && n <= most,
+        Rule::Constant(_, _) => n == 0,
         Rule::NotBelow(least) => n <= 1_000_000_000_000_000 && n >= number(bytes, least, 8),
         Rule::EnergyOf(pulses) => {
             magnitude(n) <= number(bytes, pulses, 8).saturating_mul(2_000_000_000_000)
@@ -178,11 +200,11 @@ fn first_broken(fields: &[Field], bytes: &[u8]) -> Option<u16> {
 }
 
 fn first_in_header(memory: &[u8]) -> Option<u16> {
-    let broken = first_broken(&HEADER, memory);
+    let broken = first_broken(&HEADER, memory).or(first_broken(&CALIBRATION, memory));
     if broken.is_some() {
         return broken;
     }
-    (24..256).find(|at| number(memory, *at, 1) != 0)
+    (52..256).find(|at| number(memory, *at, 1) != 0)
 }
 
 fn is_entry(entry: &[u8], slot: &[u8]) -> bool {

@@ -6,6 +6,8 @@ mod formatting;
 #[cfg(test)]
 mod hostile_tests;
 mod layout;
+mod loading;
+mod looking;
 mod recovery;
 mod settling;
 mod side;
@@ -15,6 +17,7 @@ mod tests;
 
 pub use committing::{commit, fill_slot, turn_gate};
 pub use formatting::format;
+pub use looking::{Slots, look};
 pub use recovery::recover;
 pub use side::Side;
 pub use store_fault::StoreFault;

@@ -5,12 +5,12 @@ ghost use Rattle.meter_board.specs.Causes.{Rose};
 ghost use Rattle.register_store.specs.declared.store_fault.StoreFault.TheVariants.{Formatted, Memory, Cut};
 ghost use Rattle.register_store.specs.Recovered.{RecoverGives};
 
-use crate::layout::{GATE_AT, MARK, side_of_gate, slot_place};
+use crate::layout::side_of_gate;
+use crate::loading::{load_gate, load_header, load_slot};
 use crate::{Side, StoreFault};
 use billing_memory::MeterRecord;
 use meter_board::Board;
 use meter_config::Config;
-use state_codec::{decode_header, decode_record};
 
 /// The configuration and the record that the memory holds, and the slot of the record. It loads alone.
 ///
@@ -28,24 +28,11 @@ pub fn recover<B: Board>(board: &mut B) -> Result<(Config, MeterRecord, Side), S
     ensures output_faults { B.output_faults board.old ≤ B.output_faults board.new }
     ensures cuts { B.cuts board.old ≤ B.cuts board.new }
 {
-    let mut header = [0; 256];
-    board.load(0, &mut header)?;
-    if header[0] != MARK {
-        return Err(StoreFault::Unformatted { byte: header[0] });
-    }
-    let config = match decode_header(&header) {
-        Ok(config) => config,
-        Err(foreign) => return Err(StoreFault::Foreign { at: foreign.at }),
-    };
-    let mut gate = [0; 1];
-    board.load(GATE_AT, &mut gate)?;
-    let side = side_of_gate(gate[0]);
-    let mut slot = [0; 1_280];
-    board.load(slot_place(side), &mut slot)?;
-    match decode_record(&slot) {
+    let config = load_header(board)?;
+    let gate = load_gate(board)?;
+    let side = side_of_gate(gate);
+    match load_slot(board, side)? {
         Ok(record) => Ok((config, record, side)),
-        Err(foreign) => Err(StoreFault::Foreign {
-            at: slot_place(side) + foreign.at,
-        }),
+        Err(foreign) => Err(StoreFault::Foreign { at: foreign.at }),
     }
 }

@@ -1,23 +1,19 @@
 -- Where no event was kept, the record that stands is the opening one; and the settings are those of the configuration.
-use Rattle.std.proofs.Common.{◌≡◌, ℕ, ◌+◌, ◌*◌, ◌-◌, ◌≤◌, pos, ◌+ℤ◌, List, [], ◌++◌, length, drop, true, refl, sym, ap, ◌∙◌, arith}
+use Rattle.std.proofs.Common.{◌≡◌, ℕ, ◌+◌, ◌-◌, ◌≤◌, pos, ◌+ℤ◌, List, [], ◌++◌, length, drop, true, refl, sym, ap, ◌∙◌, arith}
 use Rattle.std.proofs.lemmas.Bool.Decides.{nat_tests}
 use Rattle.std.proofs.lemmas.List.{append-nil, length-map}
 use Rattle.std.proofs.Math.IntN.{+ℤ_idr}
-use Rattle.platinum_model.specs.Element.{nominal}
 use Rattle.calendar_model.specs.Entries.{latest}
 use Rattle.metering_model.specs.Settings.{Settings}
 use Rattle.metering_model.specs.Records.{StandsFor, record_after}
 use Rattle.metering_model.specs.Records as records
 use Rattle.config_model.specs.Configuration.{is_pulse}
 use Rattle.pairing_model.specs.Settings.{settings_for}
-use Rattle.pt_curve.specs.declared.sensor.Sensor.{Sensor}
-use Rattle.pt_curve.specs.declared.sensor.Sensor.TheVariants.{Pt100, Pt500, Pt1000}
-use Rattle.pt_curve.specs.Curve.{nominal_r0}
 use Rattle.billing_memory.specs.declared.meter_record.MeterRecord.{MeterRecord}
 use Rattle.billing_memory.specs.Entries.{entry_view}
 use Rattle.billing_memory.specs.Records.{record_view}
 use Rattle.meter_config.specs.declared.config.Config.{Config}
-use Rattle.meter_config.specs.Views.{config_view, sensor_ohm, settings_of}
+use Rattle.meter_config.specs.Views.{config_view, settings_of}
 
 all_kept : {X : Type 0} (keep : ℕ) (xs : List X) → length xs ≤ keep → latest keep (xs ++ []) ≡ xs
 all_kept keep xs few =
@@ -43,13 +39,8 @@ stands_nothing c o few = record { in_order = refl; is = sym same } where
         set_day = o.set_day;
       }
 
-resistance_of : (s : Sensor) → nominal_r0 s ≡ 1000000 * sensor_ohm s
-resistance_of Pt100 = refl
-resistance_of Pt500 = refl
-resistance_of Pt1000 = refl
-
 pub settings_same : (c : Config) → settings_of c ≡ settings_for (config_view c)
-settings_same c = ap (λ (r0 : ℕ). record (settings_of c) { flow = nominal r0; ret = nominal r0 }) (resistance_of c.sensor)
+settings_same c = refl
 
 pub few_months : (m : MeterRecord) → length (record_view m).months ≤ 24
 few_months m = omega (arith, m.months_kept, length-map m.months.items entry_view)

@@ -1,5 +1,5 @@
 -- The meter of a run without a memory.
-use Rattle.std.specs.Prelude.{codes}
+use Rattle.std.specs.Prelude.{codes, None}
 use Rattle.heat_model.specs.Heat.{Return}
 use Rattle.metering_model.specs.Settings.{Settings}
 use Rattle.metering_model.specs.Records.{MeterRecord, opening_record}
@@ -27,6 +27,7 @@ dry_configuration = record {
   volume_decimals = 2;
   set_month = 1;
   opening_day = 8780;
+  calibration = None;
 }
 
 abbrev pub dry_setup : Setup

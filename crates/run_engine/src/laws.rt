@@ -6,7 +6,7 @@ ghost use Rattle.metering_model.specs.Settings.{Settings};
 ghost use Rattle.metering_model.specs.Records.{MeterRecord, StandsFor};
 ghost use Rattle.metering_model.specs.Integral.{AllFit, AllFitWithMargin, AllFitClosely};
 ghost use Rattle.metering_model.specs.Near.{AreNear, HasChoice};
-ghost use Rattle.config_model.specs.Configuration.{Configuration, is_sensor};
+ghost use Rattle.config_model.specs.Configuration.{Configuration, is_calibration, is_sensor};
 ghost use Rattle.trace_model.specs.Trace.{Trace};
 ghost use Rattle.trace_model.specs.Output.{OutputLine};
 ghost use Rattle.pairing_model.specs.Settings.{settings_for};
@@ -25,13 +25,13 @@ pub fn held_energy_is_bounded()
 
 /// A law: events that fit with margin are as near to their exact integral: those of a run, of `dry` and of `gen` too.
 pub fn fitting_events_are_near()
-    ensures { (c : Configuration) (o : MeterRecord) (events : List Kept) → is_sensor c.sensor_ohm ≡ true → AllFitWithMargin (settings_for c) o events → AreNear (settings_for c) o events }
+    ensures { (c : Configuration) (o : MeterRecord) (events : List Kept) → is_sensor c.sensor_ohm ≡ true → is_calibration c.sensor_ohm c.calibration ≡ true → AllFitWithMargin (settings_for c) o events → AreNear (settings_for c) o events }
 {}
 
 /// A law: whatever the events, there are temperatures that their samples stand for. So what is said of every choice of
 /// them is said of something.
 pub fn temperatures_exist()
-    ensures { (c : Configuration) (o : MeterRecord) (events : List Kept) → is_sensor c.sensor_ohm ≡ true → HasChoice (settings_for c) o events }
+    ensures { (c : Configuration) (o : MeterRecord) (events : List Kept) → is_sensor c.sensor_ohm ≡ true → is_calibration c.sensor_ohm c.calibration ≡ true → HasChoice (settings_for c) o events }
 {}
 
 /// A law: a script and its output lines decide the journal: which events were kept, with which energies and bounds.

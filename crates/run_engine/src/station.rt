@@ -26,7 +26,7 @@ use optical_readout::Optical;
 use register_store::{Side, StoreFault, recover};
 
 /// A meter whose record the memory holds, its optical head, and it as a slave on the bus.
-#[derive(Debug, Drop)]
+#[derive(Drop)]
 pub(crate) struct Station {
     meter: Meter,
     // The side of the memory that holds the record.

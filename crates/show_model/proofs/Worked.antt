@@ -21,6 +21,7 @@ standard = record {
   volume_decimals = 2;
   set_month = 1;
   opening_day = 8780;
+  calibration = None;
 }
 
 -- ---- a new meter

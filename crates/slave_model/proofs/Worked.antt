@@ -23,6 +23,7 @@ configuration = record {
   volume_decimals = 2;
   set_month = 1;
   opening_day = 8780;
+  calibration = None;
 }
 
 abbrev register : Register

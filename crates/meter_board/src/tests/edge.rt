@@ -17,6 +17,9 @@ fn a_new_memory_and_its_name_are_settled_before_its_first_byte(
 ) -> Result<(), Fail> {
     let path = "edge_new_memory.bin";
     let _absent = fs::remove_file(&rt, path);
+    // A process that was ended has left this.
+    let left = "edge_new_memory.bin.new";
+    make_zeros(&rt, left, 7)?;
     let watched = Watched::new(rt)?;
     let mut board = FileBoard::at(&watched, path);
     let mut into = [1; 2];
@@ -24,9 +27,10 @@ fn a_new_memory_and_its_name_are_settled_before_its_first_byte(
     assert_eq!(&rt; into, [0, 0]);
     assert_eq!(&rt;
         watched.calls().as_str(),
-        "open first; make; clone first; resize memory to 16384; sync memory; open folder; sync folder; seek 16382 in memory; read 2 of memory; "
+        "open first; remove new; open new; resize new to 16384; sync new; look for the name; rename new; open folder; sync folder; open first; look at first; clone first; seek 16382 in memory; read 2 of memory; "
     );
     assert_eq!(&rt; fs::metadata(&rt, path)?.len(), 16_384);
+    assert!(&rt; !fs::exists(&rt, left)?);
     fs::remove_file(&rt, path)?;
     Ok(())
 }
@@ -50,23 +54,31 @@ fn a_memory_that_can_not_be_made_whole_is_taken_away(rt: HostRuntime) -> Result<
     let _absent = fs::remove_file(&rt, path);
     for (spared, want) in [
         (0, "open first; "),
-        (1, "open first; make; "),
-        (2, "open first; make; clone first; remove; "),
+        (1, "open first; remove new; "),
+        (2, "open first; remove new; open new; remove new; "),
         (
             3,
-            "open first; make; clone first; resize memory to 16384; remove; ",
+            "open first; remove new; open new; resize new to 16384; remove new; ",
         ),
         (
             4,
-            "open first; make; clone first; resize memory to 16384; sync memory; remove; ",
+            "open first; remove new; open new; resize new to 16384; sync new; remove new; ",
         ),
         (
             5,
-            "open first; make; clone first; resize memory to 16384; sync memory; open folder; remove; ",
+            "open first; remove new; open new; resize new to 16384; sync new; look for the name; remove new; ",
         ),
         (
             6,
-            "open first; make; clone first; resize memory to 16384; sync memory; open folder; sync folder; remove; ",
+            "open first; remove new; open new; resize new to 16384; sync new; look for the name; rename new; remove new; ",
+        ),
+        (
+            7,
+            "open first; remove new; open new; resize new to 16384; sync new; look for the name; rename new; open folder; remove memory; ",
+        ),
+        (
+            8,
+            "open first; remove new; open new; resize new to 16384; sync new; look for the name; rename new; open folder; sync folder; remove memory; ",
         ),
     ] {
         let (calls, answer) = store_byte(rt, path, spared)?;

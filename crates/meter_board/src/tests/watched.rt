@@ -70,7 +70,7 @@ impl Watched {
     }
 }
 
-/// An open file. The handle that opened it is the first; a clone of that is the memory's.
+/// An open file. The handle that opened it is the first; a clone of that is the memory's. A file that is being made is new.
 #[derive(Drop)]
 pub struct WatchedFile {
     file: File,
@@ -84,12 +84,14 @@ impl Files for Watched {
     type Dir = <HostRuntime as Files>::Dir;
 
     fn open_file(&self, how: &OpenOptions, path: &str) -> io::Result<WatchedFile> {
-        let handle = if how.asks_write() { "first" } else { "folder" };
-        if how.asks_create_new() {
-            self.watch.note("make")?;
+        let handle = if how.asks_create_new() {
+            "new"
+        } else if how.asks_write() {
+            "first"
         } else {
-            self.watch.note(format_args!("open {handle}"))?;
-        }
+            "folder"
+        };
+        self.watch.note(format_args!("open {handle}"))?;
         let file = self.rt.open_file(how, path)?;
         Ok(WatchedFile {
             file,
@@ -99,7 +101,12 @@ impl Files for Watched {
     }
 
     fn remove_file(&self, path: &str) -> io::Result<()> {
-        self.watch.note("remove")?;
+        let name = if path.ends_with(".new") {
+            "new"
+        } else {
+            "memory"
+        };
+        self.watch.note(format_args!("remove {name}"))?;
         self.rt.remove_file(path)
     }
 
@@ -112,6 +119,7 @@ impl Files for Watched {
     }
 
     fn symlink_metadata(&self, path: &str) -> io::Result<Metadata> {
+        self.watch.note("look for the name")?;
         self.rt.symlink_metadata(path)
     }
 
@@ -120,6 +128,7 @@ impl Files for Watched {
     }
 
     fn rename(&self, from: &str, to: &str) -> io::Result<()> {
+        self.watch.note("rename new")?;
         self.rt.rename(from, to)
     }
 

@@ -1,6 +1,6 @@
 use Rattle.std.proofs.Common.{◌≡◌, inl, inr, true, false, refl, sym, subst}
-use Rattle.platinum_model.specs.Element.{nominal}
 use Rattle.platinum_model.specs.Sample.{IsInRange}
+use Rattle.pt_curve.specs.Curve.{element}
 use Rattle.meter_cli.specs.Bench.{IsPairJudged}
 use Rattle.meter_cli.proofs.Benches.{pair_judged}
 use Rattle.meter_cli.proofs.bench.pair_line.Goals as goal
@@ -8,9 +8,9 @@ use Rattle.meter_cli.proofs.bench.pair_line.Goals as goal
 pub returns-clause-text : goal.returns-clause-text
 returns-clause-text c =
     let test = c.args.test in
-    let judged = pair_judged (nominal c.nominal-curve.result.r0_uohm) test.dmin_udeg test.tf_udeg test.tr_udeg test.rf test.rr _ _ _ _ c.judge_pair.result (c.in-Some.ensures.in_range.0 refl) (c.in-Some-cell.ensures.in_range.0 refl) c.in-Some.ensures.span c.in-Some-cell.ensures.span c.judge_pair.ensures in
-    inr (c.judge_pair.result, subst (λ r0. IsPairJudged (nominal r0) test.dmin_udeg test.tf_udeg test.tr_udeg test.rf test.rr c.judge_pair.result) c.nominal-curve.ensures judged, c.judged_line.ensures.text)
+    let judged = pair_judged (element c.nominal-curve.result) test.dmin_udeg test.tf_udeg test.tr_udeg test.rf test.rr _ _ _ _ c.judge_pair.result (c.in-Some.ensures.in_range.0 refl) (c.in-Some-cell.ensures.in_range.0 refl) c.in-Some.ensures.span c.in-Some-cell.ensures.span c.judge_pair.ensures in
+    inr (c.judge_pair.result, subst (λ e. IsPairJudged e test.dmin_udeg test.tf_udeg test.tr_udeg test.rf test.rr c.judge_pair.result) c.nominal-curve.ensures judged, c.judged_line.ensures.text)
 
 pub returns-in_default-cell-clause-text : goal.returns-in_default-cell-clause-text
 returns-in_default-cell-clause-text c =
-    inl (inr (λ inside. let wrong : false ≡ true = c.in_default-cell.ensures.in_range.1 (subst (λ r0. IsInRange (nominal r0) c.args.test.rr) (sym c.nominal-curve.ensures) inside) in cc), c.word_line-in_default-cell.ensures)
+    inl (inr (λ inside. let wrong : false ≡ true = c.in_default-cell.ensures.in_range.1 (subst (λ e. IsInRange e c.args.test.rr) (sym c.nominal-curve.ensures) inside) in cc), c.word_line-in_default-cell.ensures)

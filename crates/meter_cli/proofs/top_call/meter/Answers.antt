@@ -6,7 +6,7 @@ use Rattle.meter_cli.proofs.Certs.{cert_alone, cert_base, cert_ends}
 use Rattle.meter_cli.proofs.Inits.{each_moment}
 use Rattle.meter_cli.proofs.Lines.{done_or}
 use Rattle.meter_cli.proofs.Readings.{complete}
-use Rattle.meter_cli.proofs.Shows.{shows_alone, shows_base}
+use Rattle.meter_cli.proofs.Shows.{looks_alone, looks_base}
 use Rattle.meter_cli.proofs.top_call.meter.Goals as goal
 
 pub returns-in-Ok-Init-clause-init_moments : goal.returns-in-Ok-Init-clause-init_moments
@@ -14,7 +14,7 @@ returns-in-Ok-Init-clause-init_moments g c = λ config p is reads tells accepts 
     each_moment config _ _ p (c.requires tells) (g.met.B.Board.whole c.args.board.now tells) other (c.init.ensures.moments config reads tells accepts) before
 
 pub returns-in-Ok-Show-clause-puts : goal.returns-in-Ok-Show-clause-puts
-returns-in-Ok-Show-clause-puts g c = λ other not_run tells. shows_alone _ _ _ c.show.result (c.show.ensures.leaves tells) (subst PutsAlone (sym (c.requires tells)) tt)
+returns-in-Ok-Show-clause-puts g c = λ other not_run tells. looks_alone _ _ _ _ _ c.show.result (c.show.ensures.leaves tells) (subst PutsAlone (sym (c.requires tells)) tt)
 
 pub returns-in-Ok-Water-clause-one_line : goal.returns-in-Ok-Water-clause-one_line
 returns-in-Ok-Water-clause-one_line g c = λ job is one. done_or c.water.result c.water.ensures.kind c.water.ensures.write
@@ -38,7 +38,13 @@ pub returns-in-Ok-Gen-clause-one_line : goal.returns-in-Ok-Gen-clause-one_line
 returns-in-Ok-Gen-clause-one_line g c = λ job is one. done_or c.generate.result c.generate.ensures.kind c.generate.ensures.write
 
 pub returns-in-Ok-Show-clause-base : goal.returns-in-Ok-Show-clause-base
-returns-in-Ok-Show-clause-base g c = λ tells. shows_base _ _ _ c.show.result (c.show.ensures.leaves tells)
+returns-in-Ok-Show-clause-base g c = λ tells. looks_base _ _ _ _ _ c.show.result (c.show.ensures.leaves tells)
+
+pub returns-in-Ok-Slots-clause-puts : goal.returns-in-Ok-Slots-clause-puts
+returns-in-Ok-Slots-clause-puts g c = λ other not_run tells. looks_alone _ _ _ _ _ c.slots.result (c.slots.ensures.leaves tells) (subst PutsAlone (sym (c.requires tells)) tt)
+
+pub returns-in-Ok-Slots-clause-base : goal.returns-in-Ok-Slots-clause-base
+returns-in-Ok-Slots-clause-base g c = λ tells. looks_base _ _ _ _ _ c.slots.result (c.slots.ensures.leaves tells)
 
 pub returns-in-Ok-Cert-clause-puts : goal.returns-in-Ok-Cert-clause-puts
 returns-in-Ok-Cert-clause-puts g c = λ other not_run tells. cert_alone _ 0 _ _ c.cert.result (c.cert.ensures.leaves tells) (subst PutsAlone (sym (c.requires tells)) tt)
