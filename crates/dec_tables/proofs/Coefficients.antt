@@ -18,7 +18,7 @@ use Rattle.enclosure_sizes.specs.Size.{Sized, SizedBy, parts}
 use Rattle.dec_tables.specs.declared.part.Part.{Part}
 use Rattle.dec_tables.specs.Coefficients.{term_of}
 use Rattle.dec_tables.specs.Parts.{count_of, width_of}
-use Rattle.dec_tables.specs.Sizes.{x_size, total_size, coefficient_size}
+use Rattle.dec_tables.specs.Sizes.{x_size, share_size, total_size, coefficient_size}
 use Rattle.dec_tables.specs.Polynomials.{magnitude}
 use Rattle.dec_tables.proofs.Tables.{sum_below, narrow_at, all_small}
 
@@ -52,19 +52,19 @@ entry_set P xs k y within h old i e few there =
     ]
 
 -- ---- widths and magnitudes
-pub narrow_width : (q : Part) (k : ℕ) (lo hi : ℤ) → k < count_of q → SizedBy (total_size q k (map term_of region1)) 0 lo hi → hi ≤ℤ (lo +ℤ pos (width_of q k))
+pub narrow_width : (q : Part) (k : ℕ) (lo hi : ℤ) → k < count_of q → SizedBy (total_size (share_size q k) (map term_of region1)) 0 lo hi → hi ≤ℤ (lo +ℤ pos (width_of q k))
 narrow_width q k lo hi few z =
     let narrow = narrow_at q k few in
     let gap : ((hi -ℤ lo) *ℤ pos parts) ≤ℤ (pos (width_of q k) *ℤ pos parts) = omega (arith, ints, z.width, narrow) in
     let short : (hi -ℤ lo) ≤ℤ pos (width_of q k) = le_of_mul-le_pos parts (omega arith) gap in
     omega (arith, ints, short)
 
-pub stated_size : (q : Part) (k d : ℕ) (lo hi : ℤ) → k < count_of q → SizedBy (total_size q k (map term_of region1)) 0 lo hi → SizedBy (coefficient_size q k) d lo hi
+pub stated_size : (q : Part) (k d : ℕ) (lo hi : ℤ) → k < count_of q → SizedBy (total_size (share_size q k) (map term_of region1)) 0 lo hi → SizedBy (coefficient_size q k) d lo hi
 stated_size q k d lo hi few z =
     let narrow = narrow_at q k few in
     record { low = z.low; high = z.high; width = omega (arith, ints, z.width, narrow) }
 
-sized_magnitude : (m a b d : ℕ) (lo hi : ℤ) → lo ≤ℤ hi → Sized m a b d lo hi → max (unsigned_abs lo) (unsigned_abs hi) ≤ m
+pub sized_magnitude : (m a b d : ℕ) (lo hi : ℤ) → lo ≤ℤ hi → Sized m a b d lo hi → max (unsigned_abs lo) (unsigned_abs hi) ≤ m
 sized_magnitude m a b d lo hi order z =
     let low : unsigned_abs lo ≤ m = omega (arith, ints, order, z.low, z.high) in
     let high : unsigned_abs hi ≤ m = omega (arith, ints, order, z.low, z.high) in
@@ -83,7 +83,7 @@ sum_magnitudes s (e ∷ es) f h =
     let rest : sum_by magnitude es ≤ sum_below (length es) (λ k. f (suc k)) = sum_magnitudes s es (λ k. f (suc k)) (λ k d q. h (suc k) d q) in
     omega (arith, sum_by-cons magnitude e es, first, rest, sum_below_first (length es) f)
 
-pub total_small : (q : Part) (s : ℕ) (es : List (Enc s)) → length es ≡ count_of q → ((k : ℕ) (e : Enc s) → slice_get es k ≡ Some e → SizedBy (total_size q k (map term_of region1)) 0 e.lo e.hi) → sum_by magnitude es ≤ 2 ^ 59
+pub total_small : (q : Part) (s : ℕ) (es : List (Enc s)) → length es ≡ count_of q → ((k : ℕ) (e : Enc s) → slice_get es k ≡ Some e → SizedBy (total_size (share_size q k) (map term_of region1)) 0 e.lo e.hi) → sum_by magnitude es ≤ 2 ^ 59
 total_small q s es size h =
     let all = sum_magnitudes s es (λ k. (coefficient_size q k).most) (λ k e there. sized_magnitude _ _ _ 0 e.lo e.hi e.ordered (h k e there)) in
     omega (arith, rw size at all, all_small q)

@@ -13,18 +13,18 @@ use Rattle.number_model.proofs.Roundings.{floor_at_least, ceil_at_most, floor_di
 use Rattle.water_model.specs.Decimal.{decimal}
 use Rattle.dec_tables.specs.declared.table.Term.{Term}
 use Rattle.dec_tables.specs.Coefficients.{coefficient_of}
-use Rattle.dec_tables.specs.Sizes.{x_size, x_power_size, decimal_most, decimal_fits, enclosed_size, scaled_fits}
-use Rattle.enclosure_sizes.specs.Size.{SizedBy, power_size}
+use Rattle.dec_tables.specs.Sizes.{unit_power_size, x_power_size, decimal_most, decimal_fits, enclosed_size, scaled_fits}
+use Rattle.enclosure_sizes.specs.Size.{Size, SizedBy, power_size}
 use Rattle.enclosure_sizes.proofs.Sizes.{Sized-near}
 
--- ---- powers of x
+-- ---- powers
 pub Holds-one : (x : Fraction) (n : ℕ) (lo hi : ℤ) → n ≡ 0 → lo ≡ pos (2 ^ 56) → hi ≡ pos (2 ^ 56) → Holds 56 lo hi (power x n)
 unfolding power
 Holds-one x n lo hi e f g = rw (e, f, g) (record { low = record { crossed = omega (arith, ints) }; high = record { crossed = omega (arith, ints) } })
 
-pub x_power_size-positive : (n : ℕ) → 0 < n → x_power_size n ≡ power_size (2 ^ 56) n x_size
-x_power_size-positive zero h = absurd (omega arith)
-x_power_size-positive (suc n) h = refl
+pub unit_power_size-positive : (n : ℕ) (s : Size) → 0 < n → unit_power_size n s ≡ power_size (2 ^ 56) n s
+unit_power_size-positive zero s h = absurd (omega arith)
+unit_power_size-positive (suc n) s h = refl
 
 -- ---- what `scaled_fits` tests
 pub record ScaledFits (f s up : ℕ) (t : Term) : Type 0 where
@@ -79,7 +79,7 @@ two_factors m a b = rw (as_diff m) (simp ring (same_diff _ _ _ _ (omega arith)))
 three_factors : (m : ℤ) (a b c : ℕ) → ((m *ℤ pos a) *ℤ pos b) *ℤ pos c ≡ m *ℤ pos (a * b * c)
 three_factors m a b c = rw (as_diff m) (simp ring (same_diff _ _ _ _ (omega arith)))
 
-enclosed_ends : (f up : ℕ) (m e lo hi : ℤ) → Holds f lo hi (decimal m e *ℚ whole (2 ^ up)) → (lo ≤ℤ pos (decimal_most (unsigned_abs m) e (f + up))) × (neg_ℤ (pos (decimal_most (unsigned_abs m) e (f + up))) ≤ℤ hi)
+pub enclosed_ends : (f up : ℕ) (m e lo hi : ℤ) → Holds f lo hi (decimal m e *ℚ whole (2 ^ up)) → (lo ≤ℤ pos (decimal_most (unsigned_abs m) e (f + up))) × (neg_ℤ (pos (decimal_most (unsigned_abs m) e (f + up))) ≤ℤ hi)
 enclosed_ends f up m (pos e) lo hi p =
     let two : 2 ^ (f + up) ≡ 2 ^ f * 2 ^ up = pow-add 2 f up in
     let all : unsigned_abs m * (10 ^ e * 2 ^ up * 2 ^ f) ≡ unsigned_abs m * 10 ^ e * 2 ^ (f + up) = omega (arith, ap (λ n. unsigned_abs m * 10 ^ e * n) two) in

@@ -51,7 +51,7 @@ pub pow-mul : (a b n : ℕ) → a ^ (b * n) ≡ (a ^ b) ^ n
 pow-mul a b zero = rw mul-zero (pow-zero a ∙ sym (pow-zero (a ^ b)))
 pow-mul a b (suc n) = rw (mul-suc, pow-suc) (pow-add a (b * n) b ∙ ap (λ t. t * a ^ b) (pow-mul a b n))
 
-eighth_power : (v : Fraction) (n : ℕ) → power (eighth_of v) n ≈ (power v n *ℚ part (8 ^ n) (one-le-pow n 8 (lit< tt)))
+pub eighth_power : (v : Fraction) (n : ℕ) → power (eighth_of v) n ≈ (power v n *ℚ part (8 ^ n) (one-le-pow n 8 (lit< tt)))
 eighth_power v n = same_trans (power-mul v (part 8 (lit< tt)) n) (same_mul (same_refl (power v n)) (power-part 8 n (lit< tt)))
 
 low_law : (k p : Fraction) (u b w : ℕ) (above : 0 < b) → u ≡ b * w → ((k *ℚ whole u) *ℚ (p *ℚ part b above)) ≈ ((k *ℚ p) *ℚ whole w)

@@ -17,8 +17,8 @@ use Rattle.dec_tables.specs.declared.part.Part.TheVariants.{VolumeUp, VolumeDown
 use Rattle.dec_tables.specs.declared.table.Term.{Term}
 use Rattle.dec_tables.specs.Coefficients.{coefficient_of, term_of}
 use Rattle.dec_tables.specs.Parts.{part_coefficient, pressure_factor, temperature_factor, share_of}
-use Rattle.dec_tables.specs.Sizes.{total, total_size, share_size}
-use Rattle.enclosure_sizes.specs.Size.{SizedBy}
+use Rattle.dec_tables.specs.Sizes.{total, total_size}
+use Rattle.enclosure_sizes.specs.Size.{Size, SizedBy}
 use Rattle.enclosure_sizes.proofs.Sizes.{Sized-add}
 use Rattle.std.proofs.lemmas.Int.{ints}
 use Rattle.dec_tables.proofs.Shares.{pow-mul}
@@ -36,20 +36,20 @@ total_more f xs i d h = rw (take_more xs i d h) (omega (arith, total-append f (t
 total_take_le : (f : Term → ℕ) (xs : List Term) (i : ℕ) → total f (take i xs) ≤ total f xs
 total_take_le f xs i = omega (arith, total-append f (take i xs) (drop i xs), ap (total f) (take-append-drop i xs))
 
-pub size_none : (q : Part) (k : ℕ) (lo hi : ℤ) → lo ≡ pos 0 → hi ≡ pos 0 → SizedBy (total_size q k []) 0 lo hi
+pub size_none : (f : Term → Size) (w : ℕ) (lo hi : ℤ) → lo ≡ pos 0 → hi ≡ pos 0 → SizedBy (total_size f []) w lo hi
 unfolding total total_size
-size_none q k lo hi e f = rw (e, f) (record { low = omega (arith, ints); high = omega (arith, ints); width = omega (arith, ints) })
+size_none f w lo hi e g = rw (e, g) (record { low = omega (arith, ints); high = omega (arith, ints); width = omega (arith, ints) })
 
-pub size_more : (q : Part) (k : ℕ) (ts : List Term) (i : ℕ) (d : Term) (l h l' h' : ℤ) → i < length ts → SizedBy (total_size q k (take i ts)) 0 l h → SizedBy (share_size q k (get_or ts i d)) 0 l' h'
-    → SizedBy (total_size q k (take (i + 1) ts)) 0 (l +ℤ l') (h +ℤ h')
+pub size_more : (f : Term → Size) (w : ℕ) (ts : List Term) (i : ℕ) (d : Term) (l h l' h' : ℤ) → i < length ts → SizedBy (total_size f (take i ts)) w l h → SizedBy (f (get_or ts i d)) w l' h'
+    → SizedBy (total_size f (take (i + 1) ts)) w (l +ℤ l') (h +ℤ h')
 unfolding total_size
-size_more q k ts i d l h l' h' few y z =
-    rw (total_more (λ t. (share_size q k t).most) ts i d few, total_more (λ t. (share_size q k t).base) ts i d few, total_more (λ t. (share_size q k t).per) ts i d few)
-    (Sized-add _ _ _ _ _ _ 0 l h l' h' y z)
+size_more f w ts i d l h l' h' few y z =
+    rw (total_more (λ t. (f t).most) ts i d few, total_more (λ t. (f t).base) ts i d few, total_more (λ t. (f t).per) ts i d few)
+    (Sized-add _ _ _ _ _ _ w l h l' h' y z)
 
-pub size_most : (q : Part) (k : ℕ) (ts : List Term) (i : ℕ) → (total_size q k (take i ts)).most ≤ (total_size q k ts).most
+pub size_most : (f : Term → Size) (ts : List Term) (i : ℕ) → (total_size f (take i ts)).most ≤ (total_size f ts).most
 unfolding total_size
-size_most q k ts i = total_take_le (λ t. (share_size q k t).most) ts i
+size_most f ts i = total_take_le (λ t. (f t).most) ts i
 
 -- ---- sums of fractions
 sum_over-append : (f : Term → Fraction) (xs : List Term) (x : Term) → sum_over f (xs ++ x ∷ []) ≈ (sum_over f xs +ℚ f x)
@@ -60,15 +60,15 @@ sum_over-append f (y ∷ ys) x = same_trans (same_add (same_refl (f y)) (sum_ove
 pub sum_over_more : (f : Term → Fraction) (xs : List Term) (i : ℕ) (d : Term) → i < length xs → (sum_over f (take i xs) +ℚ f (get_or xs i d)) ≈ sum_over f (take (i + 1) xs)
 sum_over_more f xs i d h = rw (take_more xs i d h) (same_sym (sum_over-append f (take i xs) (get_or xs i d)))
 
-sum_map : (f : Term → Fraction) (g : Row → Fraction) → ((r : Row) → f (term_of r) ≈ g r) → (rs : List Row) → sum_over f (map term_of rs) ≈ sum_over g rs
+pub sum_map : (f : Term → Fraction) (g : Row → Fraction) → ((r : Row) → f (term_of r) ≈ g r) → (rs : List Row) → sum_over f (map term_of rs) ≈ sum_over g rs
 unfolding sum_over
 sum_map f g h [] = same_refl (whole 0)
 sum_map f g h (r ∷ rs) = same_add (h r) (sum_map f g h rs)
 
-sum_none : (f : Term → Fraction) → ((t : Term) → f t ≈ whole 0) → (ts : List Term) → sum_over f ts ≈ whole 0
+pub sum_none : {A : Type 0} (f : A → Fraction) → ((e : A) → f e ≈ whole 0) → (es : List A) → sum_over f es ≈ whole 0
 unfolding sum_over
 sum_none f h [] = same_refl (whole 0)
-sum_none f h (t ∷ ts) = same_trans (same_add (h t) (sum_none f h ts)) (zero_add (whole 0))
+sum_none f h (e ∷ es) = same_trans (same_add (h e) (sum_none f h es)) (zero_add (whole 0))
 
 pick : (b : Bool) (x y : Fraction) → x ≈ y → (if b then x else whole 0) ≈ (if b then y else whole 0)
 pick true x y h = h
@@ -81,7 +81,7 @@ pressure_row v r = same_mul (same_sym (neg_times r.mantissa r.exp10 r.i)) (same_
 swap : (c j p : Fraction) → ((c *ℚ j) *ℚ p) ≈ ((c *ℚ p) *ℚ j)
 swap c j p = same_trans (same_mul_assoc c j p) (same_trans (same_mul (same_refl c) (same_mul_comm j p)) (same_sym (same_mul_assoc c p j)))
 
-temperature_row : (v : Fraction) (r : Row) → (coefficient_of (temperature_factor (term_of r)) *ℚ power v r.i) ≈ tau_factor v r
+pub temperature_row : (v : Fraction) (r : Row) → (coefficient_of (temperature_factor (term_of r)) *ℚ power v r.i) ≈ tau_factor v r
 temperature_row v r =
     same_trans (same_mul (same_sym (times_integer r.mantissa r.exp10 r.j)) (same_refl (power v r.i))) (swap (coefficient r) (integer r.j) (power v r.i))
 

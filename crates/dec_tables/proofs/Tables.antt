@@ -9,13 +9,13 @@ use Rattle.dec_tables.specs.declared.part.Part.TheVariants.{VolumeUp, VolumeDown
 use Rattle.dec_tables.specs.declared.table.Term.{Term}
 use Rattle.dec_tables.specs.Coefficients.{term_of}
 use Rattle.dec_tables.specs.Parts.{count_of, width_of}
-use Rattle.dec_tables.specs.Sizes.{scaled_fits, factor_fits, share_fits, total, total_size, coefficient_size}
+use Rattle.dec_tables.specs.Sizes.{scaled_fits, factor_fits, share_fits, share_size, total, total_size, coefficient_size}
 
 all_below : ℕ → (ℕ → Bool) → Bool
 all_below zero p = true
 all_below (suc n) p = all_below n p && p n
 
-every : (Term → Bool) → List Term → Bool
+unfoldable pub every : (Term → Bool) → List Term → Bool
 every p [] = true
 every p (t ∷ ts) = p t && every p ts
 
@@ -26,7 +26,7 @@ terms_fit VolumeDown = refl
 terms_fit HeatUp = refl
 terms_fit HeatDown = refl
 
-narrow : (part : Part) → IsTrue (all_below (count_of part) (λ k. nat_le (total_size part k (map term_of region1)).base (width_of part k * parts)))
+narrow : (part : Part) → IsTrue (all_below (count_of part) (λ k. nat_le (total_size (share_size part k) (map term_of region1)).base (width_of part k * parts)))
 unfolding all_below region1 total total_size slope
 narrow VolumeUp = refl
 narrow VolumeDown = refl
@@ -55,7 +55,7 @@ below_all (suc n) p k h few =
       | inr most ↦ (let e : n ≡ k = omega (arith, few, most) in subst (λ j. IsTrue (p j)) e both.1)
     ]
 
-every_one : (p : Term → Bool) (ts : List Term) (i : ℕ) (d : Term) → IsTrue (every p ts) → i < length ts → IsTrue (p (get_or ts i d))
+pub every_one : (p : Term → Bool) (ts : List Term) (i : ℕ) (d : Term) → IsTrue (every p ts) → i < length ts → IsTrue (p (get_or ts i d))
 unfolding every
 every_one p [] i d h few = absurd (omega (arith, few))
 every_one p (t ∷ ts) zero d h few = (and_parts (p t) (every p ts) h).0
@@ -79,8 +79,8 @@ count_few HeatDown = lit≤ tt
 pub term_fits : (q : Part) (k i : ℕ) (d : Term) → k < count_of q → i < length (map term_of region1) → IsTrue (share_fits q k (get_or (map term_of region1) i d))
 term_fits q k i d few less = every_one (share_fits q k) (map term_of region1) i d (below_all (count_of q) (λ k. every (share_fits q k) (map term_of region1)) k (terms_fit q) few) less
 
-pub narrow_at : (q : Part) (k : ℕ) → k < count_of q → (total_size q k (map term_of region1)).base ≤ width_of q k * parts
-narrow_at q k few = leb-true _ _ (below_all (count_of q) (λ k. nat_le (total_size q k (map term_of region1)).base (width_of q k * parts)) k (narrow q) few)
+pub narrow_at : (q : Part) (k : ℕ) → k < count_of q → (total_size (share_size q k) (map term_of region1)).base ≤ width_of q k * parts
+narrow_at q k few = leb-true _ _ (below_all (count_of q) (λ k. nat_le (total_size (share_size q k) (map term_of region1)).base (width_of q k * parts)) k (narrow q) few)
 
-pub small_at : (q : Part) (k : ℕ) → k < count_of q → (total_size q k (map term_of region1)).most ≤ 2 ^ 59
+pub small_at : (q : Part) (k : ℕ) → k < count_of q → (total_size (share_size q k) (map term_of region1)).most ≤ 2 ^ 59
 small_at q k few = omega (arith, one_below (count_of q) (λ k. (coefficient_size q k).most) k few, all_small q)

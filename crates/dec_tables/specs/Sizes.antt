@@ -11,10 +11,13 @@ use Rattle.enclosure_sizes.specs.Size.{Size, parts, power_size, product_size, do
 abbrev pub x_size : Size
 x_size = record { most = 57 * 2 ^ 50; base = 4 * parts; per = 0 }
 
--- the power of x / 8
+-- the power of a number from 0 to 1, and that of x / 8
+abbrev pub unit_power_size : ℕ → Size → Size
+unit_power_size zero s = record { most = 2 ^ 56; base = 0; per = 0 }
+unit_power_size (suc n) s = power_size (2 ^ 56) (suc n) s
+
 abbrev pub x_power_size : ℕ → Size
-x_power_size zero = record { most = 2 ^ 56; base = 0; per = 0 }
-x_power_size (suc n) = power_size (2 ^ 56) (suc n) x_size
+x_power_size n = unit_power_size n x_size
 
 -- the scale at which a term is multiplied: high powers of x carry 2^10
 abbrev pub fine_scale : ℕ → ℕ
@@ -69,13 +72,14 @@ unfoldable pub total : (Term → ℕ) → List Term → ℕ
 total f [] = 0
 total f (t ∷ ts) = f t + total f ts
 
-unfoldable pub total_size : Part → ℕ → List Term → Size
-total_size part k ts = record {
-  most = total (λ t. (share_size part k t).most) ts;
-  base = total (λ t. (share_size part k t).base) ts;
-  per = total (λ t. (share_size part k t).per) ts;
+-- the size of the sum over terms, each of the size f t
+unfoldable pub total_size : (Term → Size) → List Term → Size
+total_size f ts = record {
+  most = total (λ t. (f t).most) ts;
+  base = total (λ t. (f t).base) ts;
+  per = total (λ t. (f t).per) ts;
 }
 
 -- the greatest magnitude of coefficient k, and its greatest width
 abbrev pub coefficient_size : Part → ℕ → Size
-coefficient_size part k = record { most = (total_size part k (map term_of region1)).most; base = width_of part k * parts; per = 0 }
+coefficient_size part k = record { most = (total_size (share_size part k) (map term_of region1)).most; base = width_of part k * parts; per = 0 }

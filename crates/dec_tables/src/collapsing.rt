@@ -47,7 +47,7 @@ fn coefficient<const S: u32>(t: &Table<34>, part: Part, x: Enc<56>, k: u32) -> E
     requires size { SizedBy x_size 0 x.lo x.hi }
     ensures holds { (v : Fraction) →
         Holds 56 x.lo x.hi (eighth_of v) → Holds S result.lo result.hi (part_coefficient part v k) }
-    ensures size { SizedBy (total_size part k (map term_of region1)) 0 result.lo result.hi }
+    ensures size { SizedBy (total_size (share_size part k) (map term_of region1)) 0 result.lo result.hi }
 {
     let mut sum = Enc::point(0);
     for term in &t.terms {

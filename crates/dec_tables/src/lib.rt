@@ -19,22 +19,5 @@ pub use poly::Poly;
 pub use region1::region1_table;
 pub use table::{Table, Term};
 
-/// Unrolls a body for each of the literal terms, rows `(I, J, mantissa, exp10)`, inside a function.
-/// `for_terms!(t in [..] => e)` is the array of the values of `e`, one for each term `t`.
-#[macro_export]
-macro_rules! for_terms {
-    ($term:ident in [$(($i:literal, $j:literal, $mantissa:literal, $exp10:literal)),* $(,)?] => $value:expr) => {
-        [$({
-            let $term = $crate::Term {
-                i: $i,
-                j: $j,
-                mantissa: $mantissa,
-                exp10: $exp10,
-            };
-            $value
-        }),*]
-    };
-}
-
 #[cfg(test)]
 mod tests;

@@ -2,15 +2,26 @@ ghost use Rattle.std.specs.Prelude.{◌≡◌, map};
 ghost use Rattle.water_model.specs.Region1.{region1};
 ghost use Rattle.dec_tables.specs.Coefficients.{term_of};
 
-use super::table::Table;
-use crate::for_terms;
+use super::table::{Table, Term};
+
+// the terms of literal rows, each (I, J, mantissa, exp10)
+macro_rules! terms {
+    ($(($i:literal, $j:literal, $mantissa:literal, $exp10:literal)),* $(,)?) => {
+        [$(Term {
+            i: $i,
+            j: $j,
+            mantissa: $mantissa,
+            exp10: $exp10,
+        }),*]
+    };
+}
 
 /// The coefficients of region 1 of IAPWS-IF97.
 pub fn region1_table() -> Table<34>
     ensures { result.terms ≡ map term_of region1 }
 {
     Table {
-        terms: for_terms!(t in [
+        terms: terms![
             (0, -2, 14632971213167, -14),
             (0, -1, -84548187169114, -14),
             (0, 0, -37563603672040, -13),
@@ -45,6 +56,6 @@ pub fn region1_table() -> Table<34>
             (30, -39, -11947622640071, -36),
             (31, -40, 18228094581404, -37),
             (32, -41, -93537087292458, -39),
-        ] => t),
+        ],
     }
 }

@@ -6,7 +6,7 @@ ghost use Rattle.sensor_pair.specs.Place.{place_view};
 
 use crate::quotient::quotient_ends;
 use crate::water_heat::{heat_given, metered_volume};
-use if97_region1::Water;
+use if97_region1::{Variables, Water};
 use interval_num::Span;
 use sensor_pair::Place;
 
@@ -38,8 +38,8 @@ pub fn coeff(w: &Water, place: Place, tf_udeg: u32, tr_udeg: u32) -> Factor
 {
     let f = point(tf_udeg);
     let r = point(tr_udeg);
-    let given = heat_given(w, f, r);
-    let volume = metered_volume(w, place, f, r);
+    let given = heat_given(w, &f, &r);
+    let volume = metered_volume(w, place, &f, &r);
     let ends = quotient_ends(given, volume, MILLIONTHS, tf_udeg - tr_udeg);
     Factor {
         lo: ends.lo,
@@ -47,15 +47,15 @@ pub fn coeff(w: &Water, place: Place, tf_udeg: u32, tr_udeg: u32) -> Factor
     }
 }
 
-/// The one temperature `t_udeg`.
-fn point(t_udeg: u32) -> Span
+/// The variables at the one temperature `t_udeg`.
+fn point(t_udeg: u32) -> Variables
     requires { t_udeg ≤ 180000000 }
-    ensures lo { result.lo ≡ t_udeg * 1000 }
-    ensures hi { result.hi ≡ t_udeg * 1000 }
+    ensures lo { result.span.lo ≡ t_udeg * 1000 }
+    ensures hi { result.span.hi ≡ t_udeg * 1000 }
 {
     let t_ndeg = t_udeg as u64 * NDEG_PER_UDEG;
-    Span {
+    Variables::over(Span {
         lo: t_ndeg,
         hi: t_ndeg,
-    }
+    })
 }

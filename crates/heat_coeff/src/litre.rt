@@ -7,7 +7,7 @@ ghost use Rattle.sensor_pair.specs.Place.{place_view};
 
 use crate::quotient::quotient_ends;
 use crate::water_heat::{heat_given, metered_volume};
-use if97_region1::Water;
+use if97_region1::{Variables, Water};
 use interval_num::Span;
 use sensor_pair::Place;
 
@@ -39,8 +39,9 @@ pub fn litre_energy(w: &Water, place: Place, f: Span, r: Span) -> Litre
     ensures least { IsWithin 1400000000 result.lo_mj }
     ensures most { IsWithin 1400000000 result.hi_mj }
 {
-    let given = heat_given(w, f, r);
-    let volume = metered_volume(w, place, f, r);
+    let (f, r) = (Variables::over(f), Variables::over(r));
+    let given = heat_given(w, &f, &r);
+    let volume = metered_volume(w, place, &f, &r);
     let ends = quotient_ends(given, volume, MILLIJOULES, 1);
     Litre {
         lo_mj: ends.lo,

@@ -52,12 +52,6 @@ pub tail_product : tail_size.most * quarter_size.most ≤ (2 ^ 62 - 1) * 2 ^ 48
 unfolding horner_size total_size total region1 slope
 tail_product = lit≤ tt
 
-pub down_product : falling_size.most * u_size.most ≤ (2 ^ 62 - 1) * 2 ^ 56
-down_product = lit≤ tt
-
-pub up_product : higher_size.most * r_size.most ≤ (2 ^ 62 - 1) * 2 ^ 56
-up_product = lit≤ tt
-
 pub first_sum : linear_size.most + (product_size (2 ^ 56) falling_size u_size).most ≤ 2 ^ 62
 first_sum = lit≤ tt
 

@@ -8,12 +8,10 @@ use Rattle.number_model.specs.Rounding.{IsWithin, floor_div, ceil_div}
 use Rattle.number_model.proofs.Ints.{≤ℤ_trans, mul-le_pos, le_of_mul-le_pos, recast, as_diff, same_diff, diffs, ring}
 use Rattle.std.proofs.lemmas.Nat.{pow_pos}
 use Rattle.number_model.proofs.Roundings.{floor_div-scale_down, ceil_div-scale_down, floor_div-scale_up, ceil_div-scale_up}
-use Rattle.interval_num.specs.Ends.{ProductsWithin, quotient_floor, quotient_ceil}
+use Rattle.interval_num.specs.Ends.{ProductsWithin}
 use Rattle.enclosure_sizes.specs.Size.{Size, Sized, SizedBy, parts, down_size, up_size}
 use Rattle.enclosure_sizes.proofs.Ranges.{products_within}
 use Rattle.enclosure_sizes.proofs.Sizes.{Sized-down, Sized-up, Sized-wider}
-use Rattle.region1_terms.proofs.Temperatures.{Sized-hull}
-use Rattle.if97_region1.specs.Sizes.{volume_factor_size, heat_factor_size, offset_size}
 
 -- ---- ranges
 within_low : (m a b d : ℕ) (l h : ℤ) → l ≤ℤ h → Sized m a b d l h → IsWithin m l
@@ -41,20 +39,6 @@ width_from a b d m n N s l h w base per =
 
     up : {a b : ℕ} → a ≤ b → pos a ≤ℤ pos b
     up h = omega (arith, ints, h)
-
--- ---- constants
-pub volume_factor_sized : (d : ℕ) → SizedBy volume_factor_size d (quotient_floor 56 (pos 639675036) (pos 16530000000)) (quotient_ceil 56 (pos 639675036) (pos 16530000000))
-volume_factor_sized d =
-    Sized-hull 639675036 16530000000 639675036 16530000000 0 d volume_factor_size.most 0 1
-    (record { low = lit< tt; high = lit< tt; order = lit≤ tt; apart = omega arith; most = lit≤ tt; above = lit< tt; least = lit≤ tt; slope = lit≤ tt })
-
-pub heat_factor_sized : (d : ℕ) → SizedBy heat_factor_size d (quotient_floor 48 (pos 639675036) (pos 1000000)) (quotient_ceil 48 (pos 639675036) (pos 1000000))
-heat_factor_sized d = record { low = omega (arith, ints); high = omega (arith, ints); width = omega (arith, ints) }
-
-pub offset_sized : (d : ℕ) → SizedBy offset_size d (quotient_floor 56 (pos 1222) (pos 1000)) (quotient_ceil 56 (pos 1222) (pos 1000))
-offset_sized d =
-    Sized-hull 1222 1000 1222 1000 0 d offset_size.most 0 1
-    (record { low = lit< tt; high = lit< tt; order = lit≤ tt; apart = omega arith; most = lit≤ tt; above = lit< tt; least = lit≤ tt; slope = lit≤ tt })
 
 -- ---- other scales
 pub coarser : (s t : ℕ) → t ≤ s → (z : Size) (d : ℕ) (lo hi : ℤ) → SizedBy z d lo hi → SizedBy (down_size (2 ^ (s - t)) z) d (floor_div (lo *ℤ pos (2 ^ t)) (2 ^ s)) (ceil_div (hi *ℤ pos (2 ^ t)) (2 ^ s))

@@ -2,3 +2,5 @@ pub mod Facts
 pub mod Polynomials
 pub mod Computed
 pub mod Answers
+pub mod Parts
+pub mod Scales

@@ -1,12 +1,13 @@
 -- The sizes of polynomials.
-use Rattle.std.proofs.Common.{◌≡◌, ℕ, zero, suc, ◌+◌, ◌^◌, ◌≤◌, max, arith, refl, ℤ, pos, neg_ℤ, ◌≤ℤ◌, unsigned_abs, length, List, [], ◌∷◌}
+use Rattle.std.proofs.Common.{◌≡◌, ℕ, zero, suc, ◌+◌, ◌^◌, ◌≤◌, arith, refl, ℤ, ◌≤ℤ◌, length, List, [], ◌∷◌}
 use Rattle.std.proofs.lemmas.Int.{ints}
 use Rattle.std.specs.List.{sum_by}
 use Rattle.std.proofs.lemmas.List.Sums.{sum_by-cons}
 use Rattle.interval_num.specs.declared.enc.Enc.{Enc}
-use Rattle.enclosure_sizes.specs.Size.{Size, Sized, SizedBy, horner_size}
+use Rattle.enclosure_sizes.specs.Size.{Size, SizedBy, horner_size}
 use Rattle.enclosure_sizes.proofs.Sizes.{Sized-step, step_ordered}
 use Rattle.dec_tables.specs.Polynomials.{SizedEach, horner_ends, magnitude}
+use Rattle.dec_tables.proofs.Coefficients.{sized_magnitude}
 
 pub horner_ordered : (s : ℕ) (zl zh : ℤ) (es : List (Enc s)) → (horner_ends s zl zh es).0 ≤ℤ (horner_ends s zl zh es).1
 unfolding horner_ends
@@ -27,15 +28,6 @@ Sized-horner s d z zl zh order y (suc n) (c ∷ cs) f e h =
 unfoldable pub most_sum : (ℕ → Size) → ℕ → ℕ
 most_sum f zero = 0
 most_sum f (suc n) = (f 0).most + most_sum (λ k. f (suc k)) n
-
-sized_magnitude : (m a b d : ℕ) (lo hi : ℤ) → lo ≤ℤ hi → Sized m a b d lo hi → max (unsigned_abs lo) (unsigned_abs hi) ≤ m
-sized_magnitude m a b d lo hi order z =
-    let low : unsigned_abs lo ≤ m = abs_within lo m z.low (omega (arith, ints, order, z.high)) in
-    let high : unsigned_abs hi ≤ m = abs_within hi m (omega (arith, ints, order, z.low)) z.high in
-    omega (arith, low, high)
-  where
-    abs_within : (z : ℤ) (m : ℕ) → neg_ℤ (pos m) ≤ℤ z → z ≤ℤ pos m → unsigned_abs z ≤ m
-    abs_within z m h k = omega (arith, ints, h, k)
 
 pub total_most : (s n : ℕ) (es : List (Enc s)) (f : ℕ → Size) → length es ≡ n → SizedEach s es f → sum_by magnitude es ≤ most_sum f n
 unfolding most_sum

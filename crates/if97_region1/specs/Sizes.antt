@@ -31,9 +31,15 @@ constant_size = record { most = 114 * 2 ^ 56 / 10000 + constant_width; base = co
 abbrev pub falling_size : Size
 falling_size = sum_size constant_size (record { most = 897600000000000; base = 1535600000000; per = 4847400000 })
 
--- the whole sum for the volume
+-- the terms over tau, those by y / tau, and the whole sum for the volume
+abbrev pub over_tau_size : Size
+over_tau_size = product_size (2 ^ 56) falling_size u_size
+
+abbrev pub by_y_over_tau_size : Size
+by_y_over_tau_size = product_size (2 ^ 56) higher_size r_size
+
 abbrev pub joined_size : Size
-joined_size = sum_size (sum_size linear_size (product_size (2 ^ 56) falling_size u_size)) (product_size (2 ^ 56) higher_size r_size)
+joined_size = sum_size (sum_size linear_size over_tau_size) by_y_over_tau_size
 
 abbrev pub volume_factor_size : Size
 volume_factor_size = record { most = 2788472114959767; base = 2 * parts; per = 0 }

@@ -1,5 +1,5 @@
 ghost use Rattle.std.specs.Prelude.{◌≡◌, ℕ, suc, ◌+◌, ◌-◌, ◌*◌, ◌^◌, ◌≤◌, pos, ◌+ℤ◌, ◌≤ℤ◌, slice_get, Some};
-ghost use Rattle.number_model.specs.Fraction.{Fraction, inverse};
+ghost use Rattle.number_model.specs.Fraction.{Fraction, ◌*ℚ◌};
 ghost use Rattle.number_model.specs.Enclosure.{Holds, SpanHolds};
 ghost use Rattle.water_model.specs.Water.{x_of, y_of, volume};
 ghost use Rattle.enclosure_sizes.specs.Size.{SizedBy};
@@ -7,14 +7,15 @@ ghost use Rattle.interval_num.specs.declared.enc.Enc.{Enc};
 ghost use Rattle.dec_tables.specs.declared.part.Part.TheVariants.{VolumeUp, VolumeDown};
 ghost use Rattle.region1_algebra.specs.TableForms.{linear_of, constant_of, higher_of, falling_of, table_volume};
 ghost use Rattle.region1_algebra.specs.Forms.{u_of, r_of};
-ghost use Rattle.if97_region1.specs.Collapsed.{HoldsPart, HoldsParts};
-ghost use Rattle.if97_region1.specs.Sizes.{quarter_size, inverse_size, linear_size, constant_width, constant_size, higher_size, falling_size, joined_size, volume_size};
+ghost use Rattle.if97_region1.specs.Collapsed.{HoldsPart};
+ghost use Rattle.if97_region1.specs.Sizes.{quarter_size, inverse_size, linear_size, constant_width, constant_size, higher_size, falling_size, over_tau_size, by_y_over_tau_size, joined_size, volume_size};
 
-use crate::polys::Polys;
+use crate::constants::{factor_of_volume, offset_of_y};
 use crate::variables::{inverse, quarter};
+use crate::water::Water;
 use dec_tables::Poly;
 use interval_num::Enc;
-use region1_terms::Variables;
+use region1_terms::{TauVariables, Variables};
 
 // c1, the coefficient of y, from that of y / 4
 fn linear(up: &Poly<18, 48>) -> Enc<56>
@@ -35,7 +36,7 @@ fn constant(up: &Poly<18, 48>, linear: Enc<56>) -> Enc<56>
     ensures width { result.hi ≤ℤ (result.lo +ℤ pos constant_width) }
 {
     let first: Enc<56> = up.coef[0].scale_to();
-    first.sub(Enc::of_ratio(1_222, 1_000).mul(linear))
+    first.sub(offset_of_y().mul(linear))
 }
 
 // the coefficients from y^2 on
@@ -80,33 +81,49 @@ fn falling(constant: Enc<56>, down: &Poly<42, 40>, inverse: Enc<40>) -> Enc<56>
     constant.add(down.horner(inverse).scale_to())
 }
 
+// D / tau
+fn over_tau(down: Enc<56>, v: &TauVariables) -> Enc<56>
+    requires { SizedBy falling_size (v.now.span.hi - v.now.span.lo) down.lo down.hi }
+    ensures holds { (c d : Fraction) →
+        SpanHolds v.now.span.lo v.now.span.hi c → Holds 56 down.lo down.hi d → Holds 56 result.lo result.hi (d *ℚ u_of c) }
+    ensures sized { SizedBy over_tau_size (v.now.span.hi - v.now.span.lo) result.lo result.hi }
+{
+    down.mul(v.inverse_tau)
+}
+
+// U y / tau
+fn by_y_over_tau(up: Enc<56>, v: &TauVariables) -> Enc<56>
+    requires { SizedBy higher_size (v.now.span.hi - v.now.span.lo) up.lo up.hi }
+    ensures holds { (c d : Fraction) →
+        SpanHolds v.now.span.lo v.now.span.hi c → Holds 56 up.lo up.hi d → Holds 56 result.lo result.hi (d *ℚ r_of c) }
+    ensures sized { SizedBy by_y_over_tau_size (v.now.span.hi - v.now.span.lo) result.lo result.hi }
+{
+    up.mul(v.y_over_tau)
+}
+
 // g_pi / tau = c1 + D / tau + U y / tau: with y / tau as one ratio, both factors fall or rise together
 // with the temperature, and the product stays narrow
-fn joined(t: &Polys, v: &Variables) -> Enc<56>
-    requires low { 1100 ≤ v.now.pressure }
-    requires high { v.now.pressure ≤ 4000 }
-    requires tables { HoldsParts (x_of v.now.pressure) t.now }
+fn joined(w: &Water, v: &Variables) -> Enc<56>
     ensures holds { (c : Fraction) →
         SpanHolds v.now.span.lo v.now.span.hi c →
-        Holds 56 result.lo result.hi (table_volume (x_of v.now.pressure) (y_of c) (u_of c) (r_of c)) }
+        Holds 56 result.lo result.hi (table_volume (x_of w.now.p_kpa) (y_of c) (u_of c) (r_of c)) }
     ensures sized { SizedBy joined_size (v.now.span.hi - v.now.span.lo) result.lo result.hi }
 {
+    let t = w.polys();
     let linear = linear(&t.volume_up);
     let down = falling(constant(&t.volume_up, linear), &t.volume_down, inverse(v));
     let up = higher(&t.volume_up, quarter(v));
+    let tau = TauVariables::over(v.span);
     linear
-        .add(down.mul(v.inverse_tau))
-        .add(up.mul(v.y_over_tau))
+        .add(over_tau(down, &tau))
+        .add(by_y_over_tau(up, &tau))
 }
 
 /// v = 1386 R / 16530 * g_pi / tau, in m³/kg.
-pub(crate) fn volume_over(t: &Polys, v: &Variables) -> Enc<56>
-    requires low { 1100 ≤ v.now.pressure }
-    requires high { v.now.pressure ≤ 4000 }
-    requires tables { HoldsParts (x_of v.now.pressure) t.now }
+pub(crate) fn volume_over(w: &Water, v: &Variables) -> Enc<56>
     ensures holds { (c : Fraction) →
-        SpanHolds v.now.span.lo v.now.span.hi c → Holds 56 result.lo result.hi (volume v.now.pressure c) }
+        SpanHolds v.now.span.lo v.now.span.hi c → Holds 56 result.lo result.hi (volume w.now.p_kpa c) }
     ensures sized { SizedBy volume_size (v.now.span.hi - v.now.span.lo) result.lo result.hi }
 {
-    joined(t, v).mul(Enc::of_ratio(639_675_036, 16_530_000_000))
+    joined(w, v).mul(factor_of_volume())
 }

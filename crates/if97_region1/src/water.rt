@@ -10,7 +10,7 @@ use crate::joined::volume_over;
 use crate::polys::Polys;
 use dec_tables::{Part, collapse, region1_table};
 use interval_num::{Enc, Span};
-use region1_terms::{Variables, x_eighth_at};
+use region1_terms::{PressureVariable, Variables};
 use thiserror::Error;
 
 /// A pressure outside 1,100 to 4,000 kPa.
@@ -37,7 +37,7 @@ fn x_eighth(p: u32) -> Enc<56>
     ensures holds { Holds 56 result.lo result.hi (eighth_of (x_of p)) }
     ensures width { result.hi ≤ℤ (result.lo +ℤ pos 4) }
 {
-    x_eighth_at(p)
+    PressureVariable::at(p).x_eighth
 }
 
 // the tables at p kPa
@@ -94,7 +94,7 @@ impl Water {
         ensures closer { ((result.hi -ℤ result.lo) *ℤ pos (10 ^ 15)) ≤ℤ
             pos ((268 + 3 * (s.hi - s.lo)) * 2 ^ 56) }
     {
-        volume_over(&self.tables, &Variables::over(self.p_kpa, s))
+        self.volume_at(&Variables::over(s))
     }
 
     /// The specific enthalpy in kJ/kg at each temperature of `s`, which is d <= 3,000 nanodegrees wide.
@@ -110,6 +110,36 @@ impl Water {
         ensures closer { ((result.hi -ℤ result.lo) *ℤ pos (10 ^ 9)) ≤ℤ
             pos ((27 + 116 * (s.hi - s.lo)) * 2 ^ 48) }
     {
-        enthalpy_over(&self.tables, &Variables::over(self.p_kpa, s))
+        self.enthalpy_at(&Variables::over(s))
+    }
+
+    /// As `volume`, for the variables of a span that were made before.
+    pub fn volume_at(&self, v: &Variables) -> Enc<56>
+        requires { v.now.span.hi - v.now.span.lo ≤ 3000 }
+        ensures holds { (t : Fraction) →
+            SpanHolds v.now.span.lo v.now.span.hi t → Holds 56 result.lo result.hi (volume self.now.p_kpa t) }
+        ensures least { pos (9 * 2 ^ 56) ≤ℤ (result.lo *ℤ pos 10000) }
+        ensures most { (result.hi *ℤ pos 10000) ≤ℤ pos (14 * 2 ^ 56) }
+        ensures width { ((result.hi -ℤ result.lo) *ℤ pos (10 ^ 15)) ≤ℤ
+            pos ((1000 + 3 * (v.now.span.hi - v.now.span.lo)) * 2 ^ 56) }
+        ensures closer { ((result.hi -ℤ result.lo) *ℤ pos (10 ^ 15)) ≤ℤ
+            pos ((268 + 3 * (v.now.span.hi - v.now.span.lo)) * 2 ^ 56) }
+    {
+        volume_over(self, v)
+    }
+
+    /// As `enthalpy`, for the variables of a span that were made before.
+    pub fn enthalpy_at(&self, v: &Variables) -> Enc<48>
+        requires { v.now.span.hi - v.now.span.lo ≤ 3000 }
+        ensures holds { (t : Fraction) →
+            SpanHolds v.now.span.lo v.now.span.hi t → Holds 48 result.lo result.hi (enthalpy self.now.p_kpa t) }
+        ensures least { neg_ℤ (pos (200 * 2 ^ 48)) ≤ℤ result.lo }
+        ensures most { result.hi ≤ℤ pos (1000 * 2 ^ 48) }
+        ensures width { ((result.hi -ℤ result.lo) *ℤ pos (10 ^ 9)) ≤ℤ
+            pos ((1000 + 150 * (v.now.span.hi - v.now.span.lo)) * 2 ^ 48) }
+        ensures closer { ((result.hi -ℤ result.lo) *ℤ pos (10 ^ 9)) ≤ℤ
+            pos ((27 + 116 * (v.now.span.hi - v.now.span.lo)) * 2 ^ 48) }
+    {
+        enthalpy_over(self, v)
     }
 }

@@ -33,13 +33,13 @@ one_further p n lo hi above slopes below i h = by_place (cases_eq i n)
 -- nothing but puts
 pub cert_alone : (p i : ℕ) (old new : Trace) (status : Status) → CertFrom p i old new status → PutsAlone old → PutsAlone new
 cert_alone p i old new status (last puts) alone = alone_lines (codes "yes\n" ∷ []) old new status puts alone
-cert_alone p i old new status (failed {text = text} is front) alone = alone_front old new text front alone
+cert_alone p i old new status (failed {text = text} few is front) alone = alone_front old new text front alone
 cert_alone p i old new status (stopped few is low) alone = alone
 cert_alone p i old new status (went_on {text = text} few is above rest) alone = cert_alone p (i + 1) (old ▷ Put text) new status rest alone
 
 pub cert_base : (p i : ℕ) (old new : Trace) (status : Status) → CertFrom p i old new status → base_of new ≡ base_of old
 cert_base p i old new status (last puts) = lines_base (codes "yes\n" ∷ []) old new status puts
-cert_base p i old new status (failed {text = text} is front) = front_base old new text front
+cert_base p i old new status (failed {text = text} few is front) = front_base old new text front
 cert_base p i old new status (stopped few is low) = refl
 cert_base p i old new status (went_on {text = text} few is above rest) = cert_base p (i + 1) (old ▷ Put text) new status rest
 
@@ -55,7 +55,7 @@ module _ (p i : ℕ) (lo hi : ℤ) (text : List ℕ) (few : i < 180) (is : text 
   segment_stopped t t' low gives = subst (λ s. CertFrom p i t s (NotRising i)) (sym gives) (stopped few says low)
 
   pub segment_failed : (t t' : Trace) → PutsFront t text t' → CertFrom p i t t' Write
-  segment_failed t t' front = failed says front
+  segment_failed t t' front = failed few says front
 
 pub segments_ended : (p i : ℕ) (t new : Trace) (status : Status) → i ≡ 180 → PutsLine (codes "yes\n") t new status → CertFrom p i t new status
 segments_ended p i t new status e puts = subst (λ k. CertFrom p k t new status) (sym e) (last puts)

@@ -23,7 +23,7 @@ pub record IsSlopeText (p i : ℕ) (lo : ℤ) (text : List ℕ) : Type 0 where
 -- LO is at or below 0, and `yes` after the last.
 pub data CertFrom (p : ℕ) : ℕ → Trace → Trace → Status → Type 0 where
   last : {old new : Trace} {status : Status} → PutsLine (codes "yes\n") old new status → CertFrom p 180 old new status
-  failed : {i : ℕ} {lo : ℤ} {text : List ℕ} {old new : Trace} → IsSlopeText p i lo text → PutsFront old text new → CertFrom p i old new Write
+  failed : {i : ℕ} {lo : ℤ} {text : List ℕ} {old new : Trace} → i < 180 → IsSlopeText p i lo text → PutsFront old text new → CertFrom p i old new Write
   stopped : {i : ℕ} {lo : ℤ} {text : List ℕ} {old : Trace} → i < 180 → IsSlopeText p i lo text → lo ≤ℤ pos 0 → CertFrom p i old (old ▷ Put text) (NotRising i)
   went_on : {i : ℕ} {lo : ℤ} {text : List ℕ} {old new : Trace} {status : Status} → i < 180 → IsSlopeText p i lo text → pos 1 ≤ℤ lo
       → CertFrom p (i + 1) (old ▷ Put text) new status → CertFrom p i old new status

@@ -10,7 +10,7 @@ use crate::status::Status;
 use arrayvec::ArrayString;
 use itoa::Buffer;
 use meter_board::{Board, Failed};
-use slope_cert::{Incline, slope};
+use slope_cert::{Incline, PressureVariable, slope_at};
 
 /// The room of a line: two numbers of 40 digits, and one of 3.
 const SLOPE_ROOM: usize = 128;
@@ -29,8 +29,9 @@ pub fn cert<B: Board>(board: &mut B, p_kpa: u32) -> Status
     ensures write { result ≡ Status.Write → Rose (B.output_faults board.old) (B.output_faults board.new) }
     ensures kind { EndsCert result }
 {
+    let pressure = PressureVariable::at(p_kpa);
     for segment in 0..SEGMENTS {
-        let range = slope(p_kpa, segment);
+        let range = slope_at(&pressure, segment);
         let line = slope_line(segment, &range);
         match board.put(line.as_str().as_bytes()) {
             Ok(()) => {}

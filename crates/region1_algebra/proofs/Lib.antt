@@ -1,5 +1,5 @@
 pub mod Series
+pub mod Rows
+pub mod Factors
 pub mod Tables
-pub mod Splits
-pub mod Joined
 pub mod TableForms

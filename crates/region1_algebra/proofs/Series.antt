@@ -2,14 +2,10 @@
 use Rattle.std.proofs.Common.{◌≡◌, ◌≢◌, ℕ, zero, suc, ◌<◌, arith, inl, inr, List, [], ◌∷◌}
 use Rattle.std.proofs.lemmas.Bool.{cases_lt}
 use Rattle.number_model.specs.Fraction.{Fraction, ◌+ℚ◌, ◌*ℚ◌, ◌≈◌, whole, power}
-use Rattle.number_model.proofs.Same.{same_refl, same_sym, same_trans, same_mul, same_add, same_mul_assoc, same_mul_comm, same_distrib}
-use Rattle.number_model.proofs.Powers.{one_mul}
+use Rattle.number_model.proofs.Same.{same_refl, same_sym, same_trans, same_mul, same_add}
 use Rattle.water_model.specs.Water.{sum_over}
 use Rattle.table_model.specs.Tables.{polynomial}
 use Rattle.number_model.proofs.Laws.{zero_mul, zero_add, add_zero, add_comm, add_assoc, distrib_right}
-
-mul_zero : (z : Fraction) → (z *ℚ whole 0) ≈ whole 0
-mul_zero z = same_trans (same_mul_comm z (whole 0)) (zero_mul z)
 
 -- (a + b) + (d + e) = (a + d) + (b + e)
 pub add_across : (a b d e : Fraction) → ((a +ℚ b) +ℚ (d +ℚ e)) ≈ ((a +ℚ d) +ℚ (b +ℚ e))
@@ -56,26 +52,9 @@ polynomial_sum share n z (r ∷ rs) =
     same_trans (polynomial_add (share r) (λ k. sum_over (λ r. share r k) rs) n z)
     (same_add (same_refl (polynomial (share r) n z)) (polynomial_sum share n z rs))
 
-pub sum_none : {A : Type 0} (f : A → Fraction) (rs : List A) → ((r : A) → f r ≈ whole 0) → sum_over f rs ≈ whole 0
-unfolding sum_over
-sum_none f [] h = same_refl (whole 0)
-sum_none f (r ∷ rs) h = same_trans (same_add (h r) (sum_none f rs h)) (zero_add (whole 0))
-
 pub sum_add : {A : Type 0} (f g : A → Fraction) (rs : List A) → sum_over (λ r. f r +ℚ g r) rs ≈ (sum_over f rs +ℚ sum_over g rs)
 unfolding sum_over
 sum_add f g [] = same_sym (zero_add (whole 0))
 sum_add f g (r ∷ rs) =
     same_trans (same_add (same_refl (f r +ℚ g r)) (sum_add f g rs))
     (add_across (f r) (g r) (sum_over f rs) (sum_over g rs))
-
--- c 0 + c 1 z + .. = c 0 + z (c 1 + c 2 z + ..)
-pub polynomial_first : (c : ℕ → Fraction) (n : ℕ) (z : Fraction) → polynomial c (suc n) z ≈ (c 0 +ℚ z *ℚ polynomial (λ k. c (suc k)) n z)
-unfolding polynomial power
-polynomial_first c zero z =
-    same_trans (zero_add (c 0 *ℚ whole 1)) (same_trans (one_mul (c 0)) (same_sym (same_trans (same_add (same_refl (c 0)) (mul_zero z)) (add_zero (c 0)))))
-polynomial_first c (suc n) z =
-    let turned : (c (suc n) *ℚ (power z n *ℚ z)) ≈ (z *ℚ (c (suc n) *ℚ power z n)) =
-    same_trans (same_sym (same_mul_assoc (c (suc n)) (power z n) z)) (same_mul_comm (c (suc n) *ℚ power z n) z) in
-    same_trans (same_add (polynomial_first c n z) turned)
-    (same_trans (same_sym (add_assoc (c 0) (z *ℚ polynomial (λ k. c (suc k)) n z) (z *ℚ (c (suc n) *ℚ power z n))))
-    (same_add (same_refl (c 0)) (same_sym (same_distrib z (polynomial (λ k. c (suc k)) n z) (c (suc n) *ℚ power z n)))))

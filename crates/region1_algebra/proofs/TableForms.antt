@@ -3,14 +3,14 @@ use Rattle.std.proofs.Common.{◌≡◌, ℕ, suc, ◌*◌, arith, lit<, ℤ, po
 use Rattle.number_model.specs.Fraction.{Fraction, ◌+ℚ◌, ◌-ℚ◌, ◌*ℚ◌, ◌≈◌, whole, part, inverse}
 use Rattle.number_model.proofs.Ints.{as_diff, same_diff, ring}
 use Rattle.number_model.proofs.Same.{same_refl, same_sym, same_trans, same_mul, same_add, same_mul_assoc, same_mul_comm, same_distrib}
-use Rattle.water_model.specs.Water.{kelvin, x_of, y_of, g_pi, g_tau, volume, enthalpy}
+use Rattle.water_model.specs.Water.{kelvin, x_of, y_of, g_pi, volume, enthalpy}
 use Rattle.table_model.specs.Tables.{volume_up, volume_down, polynomial}
 use Rattle.region1_algebra.specs.Forms.{volume_factor, heat_factor, u_of, r_of}
 use Rattle.region1_algebra.specs.TableForms.{y_offset, linear_of, higher_of, constant_of, table_volume, table_heat}
 use Rattle.number_model.proofs.Laws.{add_comm, add_assoc, distrib_right, gather}
-use Rattle.region1_algebra.proofs.Series.{polynomial_first}
+use Rattle.dec_tables.proofs.Horner.{polynomial_first}
 use Rattle.region1_algebra.proofs.Tables.{pi_tables, tau_tables}
-use Rattle.region1_algebra.proofs.Joined.{unit, pair_joined, regroup, heat_factor_is}
+use Rattle.region1_algebra.proofs.Factors.{unit, pair_joined, regroup, enthalpy_is}
 
 -- a = (a - b) + b
 restored : (a b : Fraction) → a ≈ ((a -ℚ b) +ℚ b)
@@ -67,6 +67,4 @@ volume_by_tables p t above =
     (same_mul (same_refl volume_factor) (table_sum (x_of p) (y_of t) (u_of t) (unit t above))))
 
 pub enthalpy_by_tables : (p : ℕ) (t : Fraction) → (heat_factor *ℚ table_heat (x_of p) (y_of t)) ≈ enthalpy p t
-unfolding enthalpy
-enthalpy_by_tables p t =
-    same_sym (same_trans (heat_factor_is (g_tau (x_of p) (y_of t))) (same_mul (same_refl heat_factor) (tau_tables (x_of p) (y_of t))))
+enthalpy_by_tables p t = same_trans (same_mul (same_refl heat_factor) (same_sym (tau_tables (x_of p) (y_of t)))) (enthalpy_is p t)

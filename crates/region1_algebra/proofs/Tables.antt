@@ -15,7 +15,8 @@ use Rattle.water_model.specs.Region1.{Row, region1}
 use Rattle.water_model.specs.Water.{sum_over, g_pi, g_tau}
 use Rattle.table_model.specs.Tables.{pi_factor, tau_factor, volume_up, volume_down, heat_up, heat_down, polynomial}
 use Rattle.number_model.proofs.Laws.{zero_add, add_zero}
-use Rattle.region1_algebra.proofs.Series.{polynomial_same, polynomial_none, polynomial_one, polynomial_sum, sum_none, sum_add}
+use Rattle.region1_algebra.proofs.Series.{polynomial_same, polynomial_none, polynomial_one, polynomial_sum, sum_add}
+use Rattle.dec_tables.proofs.Sums.{sum_none}
 
 -- the share of f y^j in the coefficients
 abbrev up_share : Fraction → ℤ → ℕ → Fraction
@@ -101,7 +102,7 @@ module _ (m n : ℕ) (f : Row → Fraction) (j : Row → ℤ) where
       (same_trans (same_sym (polynomial_sum (λ r. down_share (f r) (j r)) n (inverse y) rs)) (polynomial_same _ down n (inverse y) d))))
 
 down_zero : (f : Row → Fraction) (j : Row → ℤ) → sum_over (λ r. down_share (f r) (j r) 0) region1 ≈ whole 0
-down_zero f j = sum_none (λ r. down_share (f r) (j r) 0) region1 (λ r. same_refl (whole 0))
+down_zero f j = sum_none (λ r. down_share (f r) (j r) 0) (λ r. same_refl (whole 0)) region1
 
 module _ (x : Fraction) where
   volume_inside : all_in 18 42 (pi_factor x) (λ r. r.j) region1 ≡ true

@@ -1,3 +1,3 @@
-//! The joined sums of region 1: the forms in which volume and enthalpy are evaluated, and that they
-//! are the published sums.
+//! The forms in which volume and enthalpy of region 1 are evaluated, and that they are the published
+//! sums.
 #![tactic(auto)]

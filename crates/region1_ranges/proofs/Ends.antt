@@ -1,10 +1,12 @@
 -- Fractions between ends at the scale 2^56, through sums, products and powers. The ends are computed.
-use Rattle.std.proofs.Common.{◌≡◌, ℕ, zero, suc, ◌+◌, ◌-◌, ◌*◌, ◌^◌, ◌<◌, arith, refl, lit<, ℤ, pos, negsuc, ◌+ℤ◌, ◌*ℤ◌, ◌≤ℤ◌, List, [], ◌∷◌}
+use Rattle.std.proofs.Common.{◌≡◌, ℕ, zero, suc, ◌+◌, ◌-◌, ◌*◌, ◌^◌, ◌<◌, arith, refl, lit<, ℤ, pos, negsuc, ◌+ℤ◌, ◌*ℤ◌, ◌≤ℤ◌, List, [], ◌∷◌, true}
+use lib.Signed.{le_z}
 use Rattle.std.proofs.lemmas.Int.{ints}
 use Rattle.std.proofs.lemmas.Nat.{pow_pos}
 use Rattle.number_model.specs.Fraction.{Fraction, ◌+ℚ◌, ◌*ℚ◌, power, whole, part, inverse, times_ℚ}
 use Rattle.number_model.specs.Enclosure.{Holds}
 use Rattle.number_model.specs.Rounding.{floor_div, ceil_div}
+use Rattle.number_model.proofs.Ints.{≤ℤ_trans, mul-le_pos}
 use Rattle.number_model.proofs.Order.{IsRatio-written}
 use Rattle.number_model.proofs.Same.{Holds-same}
 use Rattle.number_model.proofs.Enclosures.{Holds-add, Holds-mul, Holds-ratio}
@@ -24,6 +26,13 @@ pub record Ends : Type 0 where
 -- x lies between the ends
 pub record Between (e : Ends) (x : Fraction) : Type 0 where
   pub holds : Holds 56 e.lo e.hi x
+
+unfoldable pub nothing : Ends
+nothing = record { lo = pos 0; hi = pos 0 }
+
+pub Between-nothing : Between nothing (whole 0)
+unfolding nothing
+Between-nothing = record { holds = record { low = record { crossed = omega (arith, ints) }; high = record { crossed = omega (arith, ints) } } }
 
 unfoldable pub of_fraction : Fraction → Ends
 of_fraction x = record { lo = floor_div (x.num *ℤ pos (2 ^ 56)) x.den; hi = ceil_div (x.num *ℤ pos (2 ^ 56)) x.den }
@@ -58,6 +67,24 @@ unfolding raised power
 Between-raised a x zero p = record { holds = record { low = record { crossed = omega (arith, ints) }; high = record { crossed = omega (arith, ints) } } }
 Between-raised a x (suc n) p = Between-times (raised a n) a (power x n) x (Between-raised a x n p) p
 
+-- ---- wider ends
+widen_low : (l m : ℤ) (b : ℕ) (a : ℤ) → m ≤ℤ l → (l *ℤ pos b) ≤ℤ a → (m *ℤ pos b) ≤ℤ a
+widen_low l m b a h k = ≤ℤ_trans (mul-le_pos b h) k
+
+widen_high : (l m : ℤ) (b : ℕ) (a : ℤ) → l ≤ℤ m → a ≤ℤ (l *ℤ pos b) → a ≤ℤ (m *ℤ pos b)
+widen_high l m b a h k = ≤ℤ_trans k (mul-le_pos b h)
+
+pub Between-wider : (e : Ends) (l h : ℤ) (x : Fraction) → l ≤ℤ e.lo → e.hi ≤ℤ h → Between e x → Between (record { lo = l; hi = h }) x
+Between-wider e l h x low high p = record {
+  holds = record {
+    low = record { crossed = widen_low e.lo l x.den _ low p.holds.low.crossed };
+    high = record { crossed = widen_high e.hi h x.den _ high p.holds.high.crossed };
+  };
+}
+
+pub le_from : (a b : ℤ) → le_z a b ≡ true → a ≤ℤ b
+le_from a b h = grind (arith, ints)
+
 -- ---- terms, from the ends of x / 8, y / 4 and 1 / y
 abbrev pub shift : ℤ → ℕ
 shift (pos n) = 56 + 2 * n
@@ -88,10 +115,10 @@ Between-term x q z p y t a b c = record {
     back i (negsuc n) = omega arith
 
 unfoldable pub sum_ends : (Term → Term) → Ends → Ends → Ends → List Term → Ends
-sum_ends f x q z [] = record { lo = pos 0; hi = pos 0 }
+sum_ends f x q z [] = nothing
 sum_ends f x q z (t ∷ ts) = plus (term_ends x q z (f t)) (sum_ends f x q z ts)
 
 pub Between-sum : (f : Term → Term) (x q z : Ends) (p y : Fraction) (ts : List Term) → Between x (p *ℚ part 8 (lit< tt)) → Between q (y *ℚ part 4 (lit< tt)) → Between z (inverse y) → Between (sum_ends f x q z ts) (sum_over (λ t. value_of p y (f t)) ts)
 unfolding sum_ends sum_over
-Between-sum f x q z p y [] a b c = record { holds = record { low = record { crossed = omega (arith, ints) }; high = record { crossed = omega (arith, ints) } } }
+Between-sum f x q z p y [] a b c = Between-nothing
 Between-sum f x q z p y (t ∷ ts) a b c = Between-plus (term_ends x q z (f t)) (sum_ends f x q z ts) _ _ (Between-term x q z p y (f t) a b c) (Between-sum f x q z p y ts a b c)

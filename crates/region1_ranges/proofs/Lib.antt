@@ -1,3 +1,5 @@
 pub mod Ends
-pub mod Within
+pub mod Variables
+pub mod Coefficients
 pub mod Constant
+pub mod Within

@@ -1,32 +1,20 @@
 -- The powers of two that stand in the parts of a term cancel.
-use Rattle.std.proofs.Common.{◌≡◌, ℕ, zero, suc, ◌+◌, ◌*◌, ◌^◌, ◌<◌, ◌≤◌, arith, lit<, ap, sym, ◌∙◌, refl, ℤ, pos, negsuc, ◌*ℤ◌, ◌≤ℤ◌, ◌<ℤ◌, unsigned_abs, false, nat_lt}
+use Rattle.std.proofs.Common.{◌≡◌, ℕ, zero, suc, ◌+◌, ◌*◌, ◌^◌, ◌<◌, ◌≤◌, arith, lit<, ap, sym, ◌∙◌, refl, ℤ, pos, negsuc, ◌*ℤ◌, ◌≤ℤ◌, ◌<ℤ◌, unsigned_abs, false, true, nat_lt}
 use lib.Signed.{le_z}
 use Rattle.std.proofs.lemmas.Int.{ints}
 use Rattle.std.proofs.lemmas.Bool.{lt-ltb, le-ltb, cond-true, cond-false}
 use Rattle.std.proofs.lemmas.Nat.{pow-add, pow_pos}
-use native.Mathlib.Nat.{one-le-pow, pow-suc, pow-zero, mul-suc, mul-zero}
+use native.Mathlib.Nat.{one-le-pow}
 use Rattle.number_model.specs.Fraction.{Fraction, ◌*ℚ◌, ◌≈◌, power, whole, part, inverse, times_ℚ}
-use Rattle.number_model.specs.Enclosure.{Holds}
 use Rattle.number_model.proofs.Ints.{as_diff, same_diff, ring}
 use Rattle.number_model.proofs.Same.{same_refl, same_trans, same_mul}
 use Rattle.number_model.proofs.Powers.{power-mul, power-part}
 use Rattle.water_model.specs.Decimal.{whole_power}
-use Rattle.enclosure_sizes.specs.Size.{Size, power_size, up_size}
+use Rattle.enclosure_sizes.specs.Size.{power_size, up_size}
 use Rattle.region1_terms.specs.Variables.{y_size, z_size}
-use Rattle.region1_terms.specs.Monomial.{y_shift, unit_power_size, y_power_size}
-
-pow-mul : (a b n : ℕ) → a ^ (b * n) ≡ (a ^ b) ^ n
-pow-mul a b zero = rw mul-zero (pow-zero a ∙ sym (pow-zero (a ^ b)))
-pow-mul a b (suc n) = rw (mul-suc, pow-suc) (pow-add a (b * n) b ∙ ap (λ t. t * a ^ b) (pow-mul a b n))
-
--- ---- one power
-pub Holds-one : (x : Fraction) (n : ℕ) (lo hi : ℤ) → n ≡ 0 → lo ≡ pos (2 ^ 56) → hi ≡ pos (2 ^ 56) → Holds 56 lo hi (power x n)
-unfolding power
-Holds-one x n lo hi e f g = rw (e, f, g) (record { low = record { crossed = omega (arith, ints) }; high = record { crossed = omega (arith, ints) } })
-
-pub unit_power_size-positive : (n : ℕ) (s : Size) → 0 < n → unit_power_size n s ≡ power_size (2 ^ 56) n s
-unit_power_size-positive zero s h = absurd (omega arith)
-unit_power_size-positive (suc n) s h = refl
+use Rattle.dec_tables.specs.Sizes.{unit_power_size}
+use Rattle.dec_tables.proofs.Shares.{pow-mul, eighth_power}
+use Rattle.region1_terms.specs.Monomial.{y_shift, y_power_size}
 
 -- ---- powers of y
 pub times_one : (p : Fraction) (e : ℕ) (above : 0 < e) → p ≈ times_ℚ p e e above
@@ -104,10 +92,11 @@ arrange k x y p q a b a_above b_above h = record {
 
 pub term_same : (k x y : Fraction) (i e up : ℕ) → up + 56 ≡ 3 * i + e → ((k *ℚ whole (2 ^ up)) *ℚ (power (x *ℚ part 8 (lit< tt)) i *ℚ times_ℚ y (2 ^ 56) (2 ^ e) (pow_pos e))) ≈ (k *ℚ power x i *ℚ y)
 term_same k x y i e up h =
-    let x_power : power (x *ℚ part 8 (lit< tt)) i ≈ (power x i *ℚ part (8 ^ i) (one-le-pow i 8 (lit< tt))) =
-    same_trans (power-mul x (part 8 (lit< tt)) i) (same_mul (same_refl (power x i)) (power-part 8 i (lit< tt))) in
-    same_trans (same_mul (same_refl (k *ℚ whole (2 ^ up))) (same_mul x_power (same_refl (times_ℚ y (2 ^ 56) (2 ^ e) (pow_pos e)))))
+    same_trans (same_mul (same_refl (k *ℚ whole (2 ^ up))) (same_mul (eighth_power x i) (same_refl (times_ℚ y (2 ^ 56) (2 ^ e) (pow_pos e)))))
     (arrange k (power x i) y (2 ^ up) (2 ^ 56) (8 ^ i) (2 ^ e) (one-le-pow i 8 (lit< tt)) (pow_pos e) (eight_is i e up h))
+
+pub above_of : (z : ℤ) → le_z (pos 0) z ≡ true → pos 0 ≤ℤ z
+above_of z h = grind (arith, ints)
 
 pub below_of : (z : ℤ) → le_z (pos 0) z ≡ false → z <ℤ pos 0
 below_of z h = grind (arith, ints)

@@ -1,9 +1,10 @@
 -- A term over a span: which terms are evaluated, what the answer holds, and its size.
-use Rattle.std.specs.Prelude.{ℕ, zero, suc, ◌+◌, ◌-◌, ◌*◌, ◌/◌, ◌^◌, ℤ, pos, negsuc, unsigned_abs, Bool, nat_le, nat_lt, ◌&&◌, if◌then◌else◌}
+use Rattle.std.specs.Prelude.{ℕ, suc, ◌+◌, ◌-◌, ◌*◌, ◌^◌, ℤ, pos, negsuc, unsigned_abs, Bool, nat_le, nat_lt, ◌&&◌, if◌then◌else◌}
 use Rattle.number_model.specs.Fraction.{Fraction}
 use Rattle.number_model.specs.Enclosure.{Holds, SpanHolds}
 use Rattle.water_model.specs.Water.{x_of, y_of}
 use Rattle.dec_tables.specs.declared.table.Term.{Term}
+use Rattle.dec_tables.specs.Sizes.{decimal_most, decimal_fits, unit_power_size}
 use Rattle.region1_algebra.specs.Terms.{value_of}
 use Rattle.enclosure_sizes.specs.Size.{Size, SizedBy, parts, power_size, product_size, up_size}
 use Rattle.region1_terms.specs.Variables.{x_size, y_size, z_size}
@@ -14,32 +15,20 @@ y_shift (pos n) = 56 + 2 * n
 y_shift (negsuc n) = if nat_lt n 28 then 56 else 32
 
 -- the coefficient of t fits the scale 2^56 once the powers of two of its powers are put on it
-abbrev pub has_room : ℕ → ℤ → ℕ → Bool
-has_room m (pos e) k = nat_le (m * 10 ^ e * 2 ^ k) (2 ^ 61)
-has_room m (negsuc e) k = nat_le (m * 2 ^ k) (2 ^ 61 * 10 ^ suc e)
-
 unfoldable pub fits : Term → Bool
 fits t =
     nat_le t.i 64 && nat_le (unsigned_abs t.j) 48 && nat_le 56 (3 * t.i + y_shift t.j) && nat_le (3 * t.i + y_shift t.j) 152
-    && has_room (unsigned_abs t.mantissa) t.exp10 (3 * t.i + y_shift t.j)
+    && decimal_fits (unsigned_abs t.mantissa) t.exp10 (3 * t.i + y_shift t.j)
 
 -- the size of the enclosed coefficient
-abbrev pub coefficient_most : ℕ → ℤ → ℕ → ℕ
-coefficient_most m (pos e) k = m * 10 ^ e * 2 ^ k
-coefficient_most m (negsuc e) k = m * 2 ^ k / 10 ^ suc e + 1
-
 abbrev pub coefficient_size : Term → Size
 coefficient_size t = record {
-  most = coefficient_most (unsigned_abs t.mantissa) t.exp10 (3 * t.i + y_shift t.j) + 4;
+  most = decimal_most (unsigned_abs t.mantissa) t.exp10 (3 * t.i + y_shift t.j) + 4;
   base = 4 * parts;
   per = 0;
 }
 
--- the size of a power of a number from 0 to 1
-abbrev pub unit_power_size : ℕ → Size → Size
-unit_power_size zero s = record { most = 2 ^ 56; base = 0; per = 0 }
-unit_power_size (suc n) s = power_size (2 ^ 56) (suc n) s
-
+-- the size of a power of y
 abbrev pub y_power_size : ℤ → Size
 y_power_size (pos n) = unit_power_size n y_size
 y_power_size (negsuc n) = if nat_lt n 28 then unit_power_size (suc n) z_size else up_size (2 ^ 24) (power_size (2 ^ 56) (suc n) z_size)

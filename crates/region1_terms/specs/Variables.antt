@@ -15,13 +15,18 @@ nanokelvin_of t = 273150000000 + t
 abbrev pub rest_of : ℕ → ℕ
 rest_of t = 1386000000000000 - 1222 * nanokelvin_of t
 
--- at p kPa and each temperature from lo to hi nanodegrees
-pub record VariablesHold (p lo hi : ℕ) (xl xh ul uh rl rh yl yh zl zh : ℤ) : Type 0 where
-  pub x : Holds 56 xl xh (x_of p *ℚ part 8 (lit< tt))
-  pub u : (t : Fraction) → SpanHolds lo hi t → Holds 56 ul uh (u_of t)
-  pub r : (t : Fraction) → SpanHolds lo hi t → Holds 56 rl rh (r_of t)
+-- x / 8 at p kPa
+abbrev pub HoldsX : (p : ℕ) (xl xh : ℤ) → Type 0
+HoldsX p xl xh = Holds 56 xl xh (x_of p *ℚ part 8 (lit< tt))
+
+-- at each temperature from lo to hi nanodegrees
+pub record VariablesHold (lo hi : ℕ) (yl yh zl zh : ℤ) : Type 0 where
   pub y : (t : Fraction) → SpanHolds lo hi t → Holds 56 yl yh (y_of t *ℚ part 4 (lit< tt))
   pub z : (t : Fraction) → SpanHolds lo hi t → Holds 56 zl zh (inverse (y_of t))
+
+pub record TauVariablesHold (lo hi : ℕ) (ul uh rl rh : ℤ) : Type 0 where
+  pub u : (t : Fraction) → SpanHolds lo hi t → Holds 56 ul uh (u_of t)
+  pub r : (t : Fraction) → SpanHolds lo hi t → Holds 56 rl rh (r_of t)
 
 -- the greatest values, in 64ths, and the widths: a ratio has two roundings and its slope
 abbrev pub x_size : Size
@@ -40,12 +45,14 @@ abbrev pub z_size : Size
 z_size = record { most = 35 * 2 ^ 50; base = 2 * parts; per = 151194001951 }
 
 -- over a span that is d nanodegrees wide
-pub record VariablesSized (d : ℕ) (xl xh ul uh rl rh yl yh zl zh : ℤ) : Type 0 where
-  pub x : SizedBy x_size d xl xh
-  pub u : SizedBy u_size d ul uh
-  pub r : SizedBy r_size d rl rh
+pub record VariablesSized (d : ℕ) (yl yh zl zh : ℤ) : Type 0 where
   pub y : SizedBy y_size d yl yh
   pub z : SizedBy z_size d zl zh
-  pub x_low : pos 0 ≤ℤ xl
   pub y_low : pos 0 ≤ℤ yl
   pub z_low : pos 0 ≤ℤ zl
+
+pub record TauVariablesSized (d : ℕ) (ul uh rl rh : ℤ) : Type 0 where
+  pub u : SizedBy u_size d ul uh
+  pub r : SizedBy r_size d rl rh
+  pub u_low : pos 0 ≤ℤ ul
+  pub r_low : pos 0 ≤ℤ rl

@@ -5,7 +5,8 @@ ghost use Rattle.number_model.specs.Enclosure.{Holds, SpanHolds};
 ghost use Rattle.water_model.specs.Decimal.{whole_power};
 ghost use Rattle.water_model.specs.Water.{y_of};
 ghost use Rattle.enclosure_sizes.specs.Size.{Size, SizedBy, power_size, product_size, up_size};
-ghost use Rattle.region1_terms.specs.Monomial.{unit_power_size, y_power_size, y_shift};
+ghost use Rattle.dec_tables.specs.Sizes.{unit_power_size};
+ghost use Rattle.region1_terms.specs.Monomial.{y_power_size, y_shift};
 
 use crate::Variables;
 use interval_num::Enc;

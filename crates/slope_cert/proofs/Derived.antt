@@ -1,56 +1,48 @@
--- The conditions of the curvatures.
-use Rattle.std.proofs.Common.{◌≡◌, ◌*◌, ◌^◌, ◌≤◌, ℤ, pos, neg_ℤ, ◌≤ℤ◌, ◌*ℤ◌, arith, unsigned_abs, nat_le, ap, ◌∙◌}
-use lib.IntN.{◌-ℤ◌, +ℤ_idl}
+-- The conditions of the curvatures: each row has one.
+use Rattle.std.proofs.Common.{ℕ, ◌*◌, ◌^◌, ◌<◌, ◌≤◌, ℤ, pos, neg_ℤ, ◌≤ℤ◌, ◌*ℤ◌, arith, unsigned_abs, nat_le, Bool, map, length, get_or, refl}
+use lib.IntN.{◌-ℤ◌}
 use Rattle.std.proofs.lemmas.Int.{ints, unsigned_abs-mul}
 use Rattle.std.proofs.lemmas.Bool.{and_parts, leb-true}
-use Rattle.std.specs.Prelude.{IsTrue}
+use Rattle.std.specs.Prelude.{IsTrue, ◌&&◌}
 use mir.Val.{SFits}
-use mir.Syntax.{w8, w64}
+use mir.Syntax.{w64}
 use native.Mathlib.Nat.{mul-le-mul}
+use Rattle.water_model.specs.Region1.{region1}
 use Rattle.dec_tables.specs.declared.table.Term.{Term}
+use Rattle.dec_tables.specs.Coefficients.{term_of}
+use Rattle.dec_tables.proofs.Tables.{every, every_one}
 use Rattle.region1_terms.specs.Monomial.{fits}
-use Rattle.slope_cert.specs.Curvature.{curvature_of, has_curvature}
+use Rattle.region1_terms.proofs.Coefficients.{Fits-fits}
+use Rattle.slope_cert.specs.Curvature.{curvature_of}
 
-pub record CurvatureParts (t : Term) : Type 0 where
-  pub mantissa : unsigned_abs t.mantissa ≤ 2 ^ 48
+has_curvature : Term → Bool
+has_curvature t = nat_le (unsigned_abs t.mantissa) (2 ^ 47) && fits (curvature_of t)
+
+all_curve : IsTrue (every has_curvature (map term_of region1))
+unfolding every has_curvature fits region1
+all_curve = refl
+
+-- what `curvature` requires
+pub record HasCurvature (t : Term) : Type 0 where
+  pub power : neg_ℤ (pos 126) ≤ℤ t.j
+  pub mantissa : unsigned_abs t.mantissa ≤ 2 ^ 47
   pub fits : IsTrue (fits (curvature_of t))
 
-pub curvature_parts : (t : Term) → IsTrue (has_curvature t) → CurvatureParts t
+curvature_parts : (t : Term) → IsTrue (has_curvature t) → HasCurvature t
 unfolding has_curvature
 curvature_parts t h =
-    let p = and_parts (nat_le (unsigned_abs t.mantissa) (2 ^ 48)) (fits (curvature_of t)) h in
-    record { mantissa = leb-true _ _ p.0; fits = p.1 }
+    let p = and_parts (nat_le (unsigned_abs t.mantissa) (2 ^ 47)) (fits (curvature_of t)) h in
+    let few = (Fits-fits (curvature_of t) p.1).j in
+    record { power = omega (arith, ints, few); mantissa = leb-true _ _ p.0; fits = p.1 }
 
--- the numbers that are formed on the way to -j (j - 1) m, for r = j
-pub record FactorsFit (r j m : ℤ) : Type 0 where
-  pub power : SFits w8 (j -ℤ pos 2)
-  pub before : SFits w64 (r -ℤ pos 1)
-  pub pair : SFits w64 (r *ℤ (r -ℤ pos 1))
-  pub all : SFits w64 (r *ℤ (r -ℤ pos 1) *ℤ m)
-  pub negated : SFits w64 (pos 0 -ℤ (r *ℤ (r -ℤ pos 1) *ℤ m))
-  pub is : pos 0 -ℤ (r *ℤ (r -ℤ pos 1) *ℤ m) ≡ neg_ℤ (j *ℤ (j -ℤ pos 1) *ℤ m)
+pub row_curves : (i : ℕ) (d : Term) → i < length (map term_of region1) → HasCurvature (get_or (map term_of region1) i d)
+row_curves i d few = curvature_parts (get_or (map term_of region1) i d) (every_one has_curvature (map term_of region1) i d all_curve few)
 
-pub factors_fit : (r j m : ℤ) → r ≡ j → unsigned_abs (j -ℤ pos 2) ≤ 48 → unsigned_abs m ≤ 2 ^ 48 → FactorsFit r j m
-factors_fit r j m e h few =
-    let low : neg_ℤ (pos 46) ≤ℤ r = omega (arith, ints, h, e) in
-    let high : r ≤ℤ pos 50 = omega (arith, ints, h, e) in
-    let one : unsigned_abs r ≤ 2 ^ 6 = omega (arith, ints, low, high) in
-    let two : unsigned_abs (r -ℤ pos 1) ≤ 2 ^ 6 = omega (arith, ints, low, high) in
-    let pair : unsigned_abs r * unsigned_abs (r -ℤ pos 1) ≤ 2 ^ 6 * 2 ^ 6 = mul-le-mul one two in
-    let square : unsigned_abs (r *ℤ (r -ℤ pos 1)) ≤ 2 ^ 12 = omega (arith, pair, unsigned_abs-mul r (r -ℤ pos 1)) in
-    let most : unsigned_abs (r *ℤ (r -ℤ pos 1)) * unsigned_abs m ≤ 2 ^ 12 * 2 ^ 48 = mul-le-mul square few in
-    let all : unsigned_abs (r *ℤ (r -ℤ pos 1) *ℤ m) ≤ 2 ^ 60 = omega (arith, most, unsigned_abs-mul (r *ℤ (r -ℤ pos 1)) m) in
-    record {
-      power = omega (arith, ints, h);
-      before = omega (arith, ints, low, high);
-      pair = small_fits (r *ℤ (r -ℤ pos 1)) (omega (arith, square));
-      all = small_fits (r *ℤ (r -ℤ pos 1) *ℤ m) all;
-      negated = neg_small_fits (r *ℤ (r -ℤ pos 1) *ℤ m) all;
-      is = +ℤ_idl (neg_ℤ (r *ℤ (r -ℤ pos 1) *ℤ m)) ∙ ap (λ z. neg_ℤ (z *ℤ (z -ℤ pos 1) *ℤ m)) e;
-    }
+-- ---- the number that is formed on the way to -J (J - 1) n, and its negation
+pub product_fits : (a m : ℤ) → unsigned_abs a ≤ 2 ^ 15 → unsigned_abs m ≤ 2 ^ 47 → SFits w64 (a *ℤ m) × SFits w64 (pos 0 -ℤ (a *ℤ m))
+product_fits a m h k =
+    let most : unsigned_abs a * unsigned_abs m ≤ 2 ^ 15 * 2 ^ 47 = mul-le-mul h k in
+    both (a *ℤ m) (omega (arith, most, unsigned_abs-mul a m))
   where
-    small_fits : (z : ℤ) → unsigned_abs z ≤ 2 ^ 60 → SFits w64 z
-    small_fits z h = omega (arith, ints, h)
-
-    neg_small_fits : (z : ℤ) → unsigned_abs z ≤ 2 ^ 60 → SFits w64 (pos 0 -ℤ z)
-    neg_small_fits z h = omega (arith, ints, h)
+    both : (z : ℤ) → unsigned_abs z ≤ 2 ^ 62 → SFits w64 z × SFits w64 (pos 0 -ℤ z)
+    both z h = (omega (arith, ints, h), omega (arith, ints, h))

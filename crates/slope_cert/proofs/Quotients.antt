@@ -8,9 +8,9 @@ use lib.Signed.{◌<ℤ◌}
 use Rattle.number_model.specs.Rounding.{IsWithin}
 use Rattle.number_model.proofs.Ints.{as_diff, same_diff, pos-diff, ring, ≤ℤ_trans}
 use Rattle.number_model.proofs.Same.{same_refl, same_sym, same_trans, same_mul, Holds-same}
-use Rattle.water_model.specs.Water.{tau_of, x_of, y_of, gas_constant, enthalpy}
-use Rattle.region1_algebra.specs.Forms.{joined_heat, heat_factor}
-use Rattle.region1_algebra.proofs.Joined.{enthalpy_joined}
+use Rattle.water_model.specs.Water.{tau_of, x_of, y_of, gas_constant, g_tau, enthalpy}
+use Rattle.region1_algebra.specs.Forms.{heat_factor}
+use Rattle.region1_algebra.proofs.Factors.{enthalpy_is}
 use Rattle.region1_terms.proofs.Temperatures.{ratio, same_inverse, Holds-hull, IsSpread, in_span, t_is, is_at, from_low, to_high, tau_is, y_is, inverse_y_is}
 use Rattle.interval_num.specs.Ends.{quotient_floor, quotient_ceil}
 use Rattle.enclosure_sizes.specs.Size.{SizedBy}
@@ -105,12 +105,12 @@ module _ (lo hi : ℕ) (order : lo ≤ hi) (top : hi ≤ 180000000000) where
         law z1 z2 m1 m2 d1 d2 e f g h = rw (f, g, pos-diff (e * (d2 * d1))) (simp ring (same_diff _ _ _ _ (omega (arith, ap (λ t. t * (d1 * d2)) h))))
 
     pub slope_is : (p : ℕ)
-        → (((joined_heat (x_of p) (y_of t2) -ℚ joined_heat (x_of p) (y_of t1)) /ℚ (y_of t1 -ℚ y_of t2)) *ℚ (gas_constant *ℚ tau_of t1 *ℚ tau_of t2)) ≈ enthalpy_slope p t1 t2
+        → (((g_tau (x_of p) (y_of t2) -ℚ g_tau (x_of p) (y_of t1)) /ℚ (y_of t1 -ℚ y_of t2)) *ℚ (gas_constant *ℚ tau_of t1 *ℚ tau_of t2)) ≈ enthalpy_slope p t1 t2
     unfolding enthalpy_slope
     slope_is p =
-        let change = joined_heat (x_of p) (y_of t2) -ℚ joined_heat (x_of p) (y_of t1) in
+        let change = g_tau (x_of p) (y_of t2) -ℚ g_tau (x_of p) (y_of t1) in
         let heat : (heat_factor *ℚ change) ≈ (enthalpy p t2 -ℚ enthalpy p t1) =
-        same_trans (same_sym (sub_scaled heat_factor (joined_heat (x_of p) (y_of t2)) (joined_heat (x_of p) (y_of t1)))) (same_sub (enthalpy_joined p t2) (enthalpy_joined p t1)) in
+        same_trans (same_sym (sub_scaled heat_factor (g_tau (x_of p) (y_of t2)) (g_tau (x_of p) (y_of t1)))) (same_sub (enthalpy_is p t2) (enthalpy_is p t1)) in
         same_trans (same_mul (same_mul (same_refl change) y_inverse) (same_mul (same_mul (same_refl gas_constant) (tau_ratio t1 s1)) (tau_ratio t2 s2)))
         (same_trans (record { crossed = law change.num change.den (kelvins t1) (kelvins t2) t1.den t2.den (rise t1 t2) })
         (same_mul heat (same_sym t_inverse)))

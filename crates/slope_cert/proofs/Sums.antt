@@ -1,27 +1,26 @@
--- The sum over all terms: the quotient of the differences of g_tau and y lies between the summed ends of the curvatures.
-use Rattle.std.proofs.Common.{◌≡◌, ℕ, ◌*◌, refl, arith, ℤ, pos, neg_ℤ, ◌+ℤ◌, ◌*ℤ◌, List, [], ◌∷◌}
-use lib.IntN.{◌-ℤ◌}
-use Rattle.std.specs.List.{fold}
-use Rattle.number_model.specs.Fraction.{Fraction, ◌+ℚ◌, ◌-ℚ◌, ◌*ℚ◌, ◌≈◌, power, whole}
-use Rattle.number_model.specs.Enclosure.{SpanHolds}
+-- The sum over the terms: the quotient of the differences of g_tau and y lies between the summed ends of the curvatures.
+use Rattle.std.proofs.Common.{◌≡◌, ℕ, ◌+◌, ◌*◌, ◌<◌, ◌≤◌, arith, map, ℤ, pos, neg_ℤ, ◌+ℤ◌, ◌*ℤ◌, List, [], ◌∷◌, length, take, get_or}
+use Rattle.number_model.specs.Fraction.{Fraction, ◌<ℚ◌, ◌+ℚ◌, ◌-ℚ◌, ◌/ℚ◌, ◌≈◌, whole}
+use Rattle.number_model.specs.Enclosure.{Holds, SpanHolds}
 use Rattle.number_model.proofs.Ints.{as_diff, same_diff, pos-diff, ring}
-use Rattle.number_model.proofs.Same.{same_refl, same_sym, same_trans, same_mul, same_add}
-use Rattle.interval_num.specs.declared.enc.Enc.{Enc}
-use Rattle.water_model.specs.Decimal.{whole_power}
-use Rattle.water_model.specs.Water.{x_of, y_of, sum_over}
+use Rattle.number_model.proofs.Same.{same_refl, same_sym, same_trans, same_mul, same_add, Holds-same}
+use Rattle.water_model.specs.Region1.{region1}
+use Rattle.water_model.specs.Water.{x_of, y_of, sum_over, g_tau}
 use Rattle.dec_tables.specs.declared.table.Term.{Term}
-use Rattle.dec_tables.specs.Coefficients.{coefficient_of}
+use Rattle.dec_tables.specs.Coefficients.{term_of}
+use Rattle.enclosure_sizes.specs.Size.{SizedBy}
+use Rattle.dec_tables.specs.Sizes.{total_size}
+use Rattle.dec_tables.proofs.Sums.{sum_over_more, size_more}
 use Rattle.region1_algebra.specs.Terms.{value_of, tau_derivative_of}
-use Rattle.region1_algebra.specs.Forms.{heat, joined_heat}
-use Rattle.number_model.proofs.Laws.{add_assoc, add_zero, zero_add}
+use Rattle.region1_algebra.proofs.Rows.{tau_terms}
+use Rattle.region1_terms.specs.Monomial.{Evaluates}
 use Rattle.region1_terms.proofs.Temperatures.{ratio}
-use Rattle.region1_sums.specs.Totals.{low_sum, high_sum}
-use Rattle.region1_sums.proofs.Each.{EvaluatesEach}
-use Rattle.slope_cert.specs.Curvature.{curvature_of, curved}
-use Rattle.slope_cert.proofs.Order.{Quotient, Quotient-same, Quotient-add, Quotient-none}
+use Rattle.slope_cert.specs.Curvature.{curvature_of, curvature_size}
+use Rattle.slope_cert.proofs.Order.{Quotient, Quotient-same, Quotient-add, Quotient-none, Quotient-holds}
 use Rattle.slope_cert.proofs.Terms.{Apart, same_sub, term_quotient}
+use Rattle.slope_cert.proofs.Quotients.{apart, y_inverse}
 
--- ---- the terms with J = 1 have the same value at every temperature
+-- ---- differences of sums
 cancelled : (z : Fraction) → (z -ℚ z) ≈ whole 0
 cancelled z = record { crossed = law z.num z.den }
   where
@@ -36,59 +35,47 @@ regroup p q s t = record { crossed = law p.num q.num s.num t.num p.den q.den s.d
         ≡ ((a *ℤ pos d +ℤ neg_ℤ c *ℤ pos b) *ℤ pos (f * h) +ℤ (e *ℤ pos h +ℤ neg_ℤ g *ℤ pos f) *ℤ pos (b * d)) *ℤ pos ((b * f) * (d * h))
     law a c e g b d f h = rw (as_diff a, as_diff c, as_diff e, as_diff g) (simp ring (same_diff _ _ _ _ (omega arith)))
 
-module _ (x y1 y2 : Fraction) where
-  abbrev pub change_of : Term → Fraction
-  change_of t = value_of x y2 (tau_derivative_of t) -ℚ value_of x y1 (tau_derivative_of t)
+sum_sub : (f g : Term → Fraction) (ts : List Term) → sum_over (λ t. f t -ℚ g t) ts ≈ (sum_over f ts -ℚ sum_over g ts)
+unfolding sum_over
+sum_sub f g [] = same_sym (cancelled (whole 0))
+sum_sub f g (t ∷ ts) = same_trans (same_add (same_refl (f t -ℚ g t)) (sum_sub f g ts)) (same_sym (regroup (f t) (g t) (sum_over f ts) (sum_over g ts)))
 
-  power_none : (j : ℤ) → j ≡ pos 0 → whole_power y2 j ≈ whole_power y1 j
-  unfolding whole_power power
-  power_none j e = rw e (same_refl (whole 1))
+-- ---- the change of g_tau from y1 to y2, term by term
+abbrev pub change_of : (x y1 y2 : Fraction) → Term → Fraction
+change_of x y1 y2 t = value_of x y2 (tau_derivative_of t) -ℚ value_of x y1 (tau_derivative_of t)
 
-  unchanged : (t : Term) → t.j -ℤ pos 1 ≡ pos 0 → change_of t ≈ whole 0
-  unchanged t e =
-      same_trans (same_sub (same_mul (same_refl (coefficient_of (tau_derivative_of t) *ℚ power x t.i)) (power_none (t.j -ℤ pos 1) e)) (same_refl (value_of x y1 (tau_derivative_of t))))
-      (cancelled (value_of x y1 (tau_derivative_of t)))
+heat_change : (x y1 y2 : Fraction) → sum_over (change_of x y1 y2) (map term_of region1) ≈ (g_tau x y2 -ℚ g_tau x y1)
+heat_change x y1 y2 =
+    same_trans (sum_sub (λ t. value_of x y2 (tau_derivative_of t)) (λ t. value_of x y1 (tau_derivative_of t)) (map term_of region1))
+    (same_sub (tau_terms x y2) (tau_terms x y1))
 
-  data Curves : List Term → List Term → Type 0 where
-    last : Curves [] []
-    leave : {t : Term} {ts cs : List Term} → t.j -ℤ pos 1 ≡ pos 0 → Curves ts cs → Curves (t ∷ ts) cs
-    keep : {t : Term} {ts cs : List Term} → Curves ts cs → Curves (t ∷ ts) (t ∷ cs)
+-- at p kPa and for two temperatures from lo to hi nanodegrees, the change over that of y lies between l and h
+pub record ChangesHeld (p lo hi : ℕ) (ts : List Term) (l h : ℤ) : Type 0 where
+  pub held : (t1 t2 : Fraction) → SpanHolds lo hi t1 → SpanHolds lo hi t2 → (a b e n : ℕ) (w : Apart (y_of t1) (y_of t2) a b e n)
+      → Quotient 56 l h (sum_over (change_of (x_of p) (y_of t1) (y_of t2)) ts) (ratio e n w.n_above)
 
-  curves_sum : {ts cs : List Term} → Curves ts cs
-      → (sum_over (λ t. value_of x y2 (tau_derivative_of t)) ts -ℚ sum_over (λ t. value_of x y1 (tau_derivative_of t)) ts) ≈ sum_over change_of cs
-  unfolding sum_over
-  curves_sum last = cancelled (whole 0)
-  curves_sum (leave {t} {ts} {cs} e s) =
-      same_trans (regroup (value_of x y2 (tau_derivative_of t)) (value_of x y1 (tau_derivative_of t)) (sum_over (λ t. value_of x y2 (tau_derivative_of t)) ts) (sum_over (λ t. value_of x y1 (tau_derivative_of t)) ts))
-      (same_trans (same_add (unchanged t e) (curves_sum s)) (zero_add (sum_over change_of cs)))
-  curves_sum (keep {t} {ts} {cs} s) =
-      same_trans (regroup (value_of x y2 (tau_derivative_of t)) (value_of x y1 (tau_derivative_of t)) (sum_over (λ t. value_of x y2 (tau_derivative_of t)) ts) (sum_over (λ t. value_of x y1 (tau_derivative_of t)) ts))
-      (same_add (same_refl (change_of t)) (curves_sum s))
+pub no_change : (p lo hi : ℕ) (l h : ℤ) → l ≡ pos 0 → h ≡ pos 0 → ChangesHeld p lo hi [] l h
+unfolding sum_over
+no_change p lo hi l h f g = record { held = λ t1 t2 s1 s2 a b e n w. rw (f, g) (Quotient-none 56 (ratio e n w.n_above)) }
 
-  heat_curves : Curves heat curved
-  unfolding heat curved
-  heat_curves = keep (keep (leave refl (keep (keep (keep (keep (keep (keep (keep (leave refl (keep (keep (leave refl (keep (keep (keep (keep (keep (keep (keep (keep (keep (keep (keep (keep (keep (keep (keep (keep last)))))))))))))))))))))))))))))
+pub one_more_change : (p lo hi : ℕ) (ts : List Term) (i : ℕ) (d : Term) (l h l' h' m k : ℤ) → i < length ts → ChangesHeld p lo hi (take i ts) l h → Evaluates p lo hi (curvature_of (get_or ts i d)) l' h'
+    → m ≡ l +ℤ l' → k ≡ h +ℤ h' → ChangesHeld p lo hi (take (i + 1) ts) m k
+one_more_change p lo hi ts i d l h l' h' m k few q v f g = record {
+  held = λ t1 t2 s1 s2 a b e n w.
+      let change = change_of (x_of p) (y_of t1) (y_of t2) in
+      rw (f, g) (Quotient-same (sum_over_more change ts i d few)
+      (Quotient-add 56 l h l' h' (sum_over change (take i ts)) (change (get_or ts i d)) (ratio e n w.n_above) (q.held t1 t2 s1 s2 a b e n w)
+      (term_quotient (x_of p) (y_of t1) (y_of t2) a b e n w (get_or ts i d) l' h' (v.holds t1 s1) (v.holds t2 s2))));
+}
 
-  heat_change : (joined_heat x y2 -ℚ joined_heat x y1) ≈ sum_over change_of curved
-  heat_change = curves_sum heat_curves
+-- the size of the sum with one more term
+pub one_more_size : (w : ℕ) (ts : List Term) (i : ℕ) (d : Term) (l h l' h' m k : ℤ) → i < length ts → SizedBy (total_size curvature_size (take i ts)) w l h → SizedBy (curvature_size (get_or ts i d)) w l' h'
+    → m ≡ l +ℤ l' → k ≡ h +ℤ h' → SizedBy (total_size curvature_size (take (i + 1) ts)) w m k
+one_more_size w ts i d l h l' h' m k few y z f g = rw (f, g) (size_more curvature_size w ts i d l h l' h' few y z)
 
--- ---- the sum
-module _ (p lo hi : ℕ) (t1 t2 : Fraction) (s1 : SpanHolds lo hi t1) (s2 : SpanHolds lo hi t2) (a b e n : ℕ) (w : Apart (y_of t1) (y_of t2) a b e n) where
-  held_from : (ts : List Term) (es : List (Enc 56)) (L H : ℤ) (x : Fraction) → Quotient 56 L H x (ratio e n w.n_above) → EvaluatesEach p lo hi curvature_of ts es
-      → Quotient 56 (fold (λ s e. s +ℤ e.lo) L es) (fold (λ s e. s +ℤ e.hi) H es) (x +ℚ sum_over (change_of (x_of p) (y_of t1) (y_of t2)) ts) (ratio e n w.n_above)
-  unfolding sum_over
-  held_from [] [] L H x q h = Quotient-same (same_sym (add_zero x)) q
-  held_from [] (c ∷ es) L H x q h = absurd h
-  held_from (t ∷ ts) [] L H x q h = absurd h
-  held_from (t ∷ ts) (c ∷ es) L H x q h =
-      let v = change_of (x_of p) (y_of t1) (y_of t2) t in
-      Quotient-same (same_sym (add_assoc x v (sum_over (change_of (x_of p) (y_of t1) (y_of t2)) ts)))
-      (held_from ts es (L +ℤ c.lo) (H +ℤ c.hi) (x +ℚ v)
-      (Quotient-add 56 L H c.lo c.hi x v (ratio e n w.n_above) q
-      (term_quotient (x_of p) (y_of t1) (y_of t2) a b e n w t c.lo c.hi (h.0.holds t1 s1) (h.0.holds t2 s2))) h.1)
-
-  pub heat_quotient : (es : List (Enc 56)) → EvaluatesEach p lo hi curvature_of curved es
-      → Quotient 56 (low_sum es) (high_sum es) (joined_heat (x_of p) (y_of t2) -ℚ joined_heat (x_of p) (y_of t1)) (ratio e n w.n_above)
-  heat_quotient es h =
-      Quotient-same (same_trans (zero_add (sum_over (change_of (x_of p) (y_of t1) (y_of t2)) curved)) (same_sym (heat_change (x_of p) (y_of t1) (y_of t2))))
-      (held_from curved es (pos 0) (pos 0) (whole 0) (Quotient-none 56 (ratio e n w.n_above)) h)
+pub quotient_held : (p lo hi : ℕ) (order : lo ≤ hi) (top : hi ≤ 180000000000) (l h : ℤ) → ChangesHeld p lo hi (map term_of region1) l h
+    → (t1 t2 : Fraction) → SpanHolds lo hi t1 → SpanHolds lo hi t2 → t1 <ℚ t2 → Holds 56 l h ((g_tau (x_of p) (y_of t2) -ℚ g_tau (x_of p) (y_of t1)) /ℚ (y_of t1 -ℚ y_of t2))
+quotient_held p lo hi order top l h q t1 t2 s1 s2 less =
+    let w = apart lo hi order top t1 t2 s1 s2 less in
+    Holds-same (same_mul (same_refl (g_tau (x_of p) (y_of t2) -ℚ g_tau (x_of p) (y_of t1))) (same_sym (y_inverse lo hi order top t1 t2 s1 s2 less)))
+    (Quotient-holds 56 l h _ _ _ w.n_above w.e_above (Quotient-same (heat_change (x_of p) (y_of t1) (y_of t2)) (q.held t1 t2 s1 s2 _ _ _ _ w)))

@@ -1,8 +1,7 @@
 -- The sizes of the parts of a slope.
 use Rattle.std.specs.Prelude.{◌*◌, ◌^◌}
 use Rattle.enclosure_sizes.specs.Size.{Size, parts, product_size, down_size}
-use Rattle.region1_sums.specs.Totals.{total_size}
-use Rattle.slope_cert.specs.Curvature.{curvature_of, curved}
+use Rattle.slope_cert.specs.Curvature.{curvature_sum_size}
 
 -- tau at 0 °C, and its greatest fall: two roundings and 1386 / T²
 abbrev pub tau_size : Size
@@ -18,4 +17,4 @@ factor_size = product_size (2 ^ 56) (product_size (2 ^ 56) gas_constant_size tau
 
 -- at the scale 2^48
 unfoldable pub slope_size : Size
-slope_size = product_size (2 ^ 48) (down_size (2 ^ 8) (total_size curvature_of curved)) (down_size (2 ^ 8) factor_size)
+slope_size = product_size (2 ^ 48) (down_size (2 ^ 8) curvature_sum_size) (down_size (2 ^ 8) factor_size)

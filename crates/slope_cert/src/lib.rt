@@ -8,7 +8,8 @@ mod laws;
 mod slopes;
 
 pub use laws::{metered_energy_never_falls, segments_join};
-pub use slopes::{Incline, rises, slope};
+pub use region1_terms::PressureVariable;
+pub use slopes::{Incline, rises, slope, slope_at};
 
 #[cfg(test)]
 mod tests;

@@ -10,7 +10,7 @@ ghost use Rattle.slope_cert.specs.Sizes.{slope_size};
 use crate::curvature::curvature_sum;
 use crate::factor::slope_factor;
 use interval_num::{Enc, Span};
-use region1_terms::Variables;
+use region1_terms::{PressureVariable, Variables};
 
 /// A range of slopes, in 10^-9 kJ/(kg K).
 #[derive(Clone, Copy, Debug, PartialEq, Eq)]
@@ -34,13 +34,13 @@ fn segment_span(i: u8) -> Span
 }
 
 // R tau1 tau2 times the quotient of the differences of g_tau and y, in kJ/(kg K)
-fn slope_over(v: &Variables) -> Enc<48>
+fn slope_over(x: &PressureVariable, v: &Variables) -> Enc<48>
     ensures holds { (t1 t2 : Fraction) →
         SpanHolds v.now.span.lo v.now.span.hi t1 → SpanHolds v.now.span.lo v.now.span.hi t2 → t1 <ℚ t2 →
-        Holds 48 result.lo result.hi (enthalpy_slope v.now.pressure t1 t2) }
+        Holds 48 result.lo result.hi (enthalpy_slope x.now.pressure t1 t2) }
     ensures sized { SizedBy slope_size (v.now.span.hi - v.now.span.lo) result.lo result.hi }
 {
-    let curvature: Enc<48> = curvature_sum(v).scale_to();
+    let curvature: Enc<48> = curvature_sum(x, v).scale_to();
     let factor: Enc<48> = slope_factor(v.span).scale_to();
     curvature.mul(factor)
 }
@@ -57,16 +57,14 @@ fn in_billionths(range: Enc<48>) -> Incline
 }
 
 // the range of the slope over any two temperatures of a span of at most one degree
-fn slope_within(p_kpa: u32, span: Span) -> Incline
-    requires low { 1100 ≤ p_kpa }
-    requires high { p_kpa ≤ 4000 }
+fn slope_within(x: &PressureVariable, span: Span) -> Incline
     requires degree { span.hi - span.lo ≤ 10 ^ 9 }
     ensures holds { (t1 t2 : Fraction) →
         SpanHolds span.lo span.hi t1 → SpanHolds span.lo span.hi t2 → t1 <ℚ t2 →
-        LiesBetween result.lo result.hi (whole (10 ^ 9) *ℚ enthalpy_slope p_kpa t1 t2) }
+        LiesBetween result.lo result.hi (whole (10 ^ 9) *ℚ enthalpy_slope x.now.pressure t1 t2) }
     ensures width { (result.hi -ℤ result.lo) ≤ℤ pos (4 * 10 ^ 9) }
 {
-    in_billionths(slope_over(&Variables::over(p_kpa, span)))
+    in_billionths(slope_over(x, &Variables::over(span)))
 }
 
 /// The range of the slope of the enthalpy over any two temperatures of a segment, from `segment` to
@@ -78,7 +76,16 @@ pub fn slope(p_kpa: u32, segment: u8) -> Incline
     ensures holds { SlopesLie p_kpa segment result.lo result.hi }
     ensures width { (result.hi -ℤ result.lo) ≤ℤ pos (4 * 10 ^ 9) }
 {
-    slope_within(p_kpa, segment_span(segment))
+    slope_at(&PressureVariable::at(p_kpa), segment)
+}
+
+/// As `slope`, for the variable of a pressure that was made before.
+pub fn slope_at(x: &PressureVariable, segment: u8) -> Incline
+    requires { segment < 180 }
+    ensures holds { SlopesLie x.now.pressure segment result.lo result.hi }
+    ensures width { (result.hi -ℤ result.lo) ≤ℤ pos (4 * 10 ^ 9) }
+{
+    slope_within(x, segment_span(segment))
 }
 
 fn first_not_rising(slopes: &[Incline]) -> Option<usize>

@@ -3,6 +3,7 @@ use Rattle.std.proofs.lemmas.Int.{ints}
 use Rattle.number_model.proofs.Same.{Holds-same}
 use Rattle.water_model.specs.Water.{sum_over}
 use Rattle.dec_tables.specs.Parts.{share_of}
+use Rattle.dec_tables.specs.Sizes.{share_size}
 use Rattle.dec_tables.proofs.Tables.{term_fits, small_at, count_few}
 use Rattle.dec_tables.proofs.Sums.{part_sum, size_none, size_more, size_most, sum_over_more}
 use Rattle.dec_tables.proofs.collapsing.coefficient.Goals as goal
@@ -11,7 +12,7 @@ pub loop-term-init : goal.loop-term-init
 unfolding sum_over
 loop-term-init g c = record {
   holds = λ v p. rw (c.point-sum.ensures.lo, c.point-sum.ensures.hi) (record { low = record { crossed = omega (arith, ints) }; high = record { crossed = omega (arith, ints) } });
-  size = size_none c.args.part c.args.k c.point-sum.result.lo c.point-sum.result.hi c.point-sum.ensures.lo c.point-sum.ensures.hi;
+  size = size_none (share_size c.args.part c.args.k) 0 c.point-sum.result.lo c.point-sum.result.hi c.point-sum.ensures.lo c.point-sum.ensures.hi;
 }
 
 pub share-requires : goal.share-requires
@@ -23,8 +24,8 @@ share-requires g c =
 pub add-sum-requires : goal.add-sum-requires
 add-sum-requires g c =
     let few : c.loop-term.term-index < length c.args.t.now.terms = omega (arith, c.loop-term-test.true) in
-    let z = size_more c.args.part c.args.k c.args.t.now.terms c.loop-term.term-index _ _ _ _ _ few c.loop-term.invariant.size c.share.ensures.size in
-    let most = size_most c.args.part c.args.k c.args.t.now.terms (c.loop-term.term-index + 1) in
+    let z = size_more (share_size c.args.part c.args.k) 0 c.args.t.now.terms c.loop-term.term-index _ _ _ _ _ few c.loop-term.invariant.size c.share.ensures.size in
+    let most = size_most (share_size c.args.part c.args.k) c.args.t.now.terms (c.loop-term.term-index + 1) in
     let small = rw (← c.requires.table) at (small_at c.args.part c.args.k c.requires.few) in
     (lit< tt, (omega (arith, ints, z.low, most, small), omega (arith, ints, z.high, most, small)))
 
@@ -35,7 +36,7 @@ loop-term-preserved g c =
       holds = λ v p.
           Holds-same (sum_over_more (share_of c.args.part v c.args.k) c.args.t.now.terms c.loop-term.term-index _ few)
           (c.add-sum.ensures.holds _ _ (c.loop-term.invariant.holds v p) (c.share.ensures.holds v p));
-      size = rw (c.add-sum.ensures.lo, c.add-sum.ensures.hi) (size_more c.args.part c.args.k c.args.t.now.terms c.loop-term.term-index _ _ _ _ _ few c.loop-term.invariant.size c.share.ensures.size);
+      size = rw (c.add-sum.ensures.lo, c.add-sum.ensures.hi) (size_more (share_size c.args.part c.args.k) 0 c.args.t.now.terms c.loop-term.term-index _ _ _ _ _ few c.loop-term.invariant.size c.share.ensures.size);
     }
 
 pub returns-clause-holds : goal.returns-clause-holds

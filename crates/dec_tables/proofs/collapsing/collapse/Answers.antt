@@ -6,7 +6,7 @@ use Rattle.water_model.specs.Region1.{region1}
 use Rattle.enclosure_sizes.specs.Size.{SizedBy}
 use Rattle.dec_tables.specs.Coefficients.{term_of}
 use Rattle.dec_tables.specs.Parts.{part_coefficient}
-use Rattle.dec_tables.specs.Sizes.{total_size}
+use Rattle.dec_tables.specs.Sizes.{share_size, total_size}
 use Rattle.dec_tables.proofs.Coefficients.{x_bounds, entry_set, narrow_width, stated_size, total_small}
 use Rattle.dec_tables.proofs.collapsing.collapse.Goals as goal
 
@@ -16,7 +16,7 @@ loop-k-preserved g c =
     record {
       size = length-set c.loop-k.coef c.loop-k.k c.coefficient.result ∙ c.loop-k.invariant.size;
       holds = λ v p. entry_set (λ i e. Holds g.row.S e.lo e.hi (part_coefficient c.args.part v i)) c.loop-k.coef c.loop-k.k c.coefficient.result within (c.coefficient.ensures.holds v p) (c.loop-k.invariant.holds v p);
-      sized = entry_set (λ i e. SizedBy (total_size c.args.part i (map term_of region1)) 0 e.lo e.hi) c.loop-k.coef c.loop-k.k c.coefficient.result within c.coefficient.ensures.size c.loop-k.invariant.sized;
+      sized = entry_set (λ i e. SizedBy (total_size (share_size c.args.part i) (map term_of region1)) 0 e.lo e.hi) c.loop-k.coef c.loop-k.k c.coefficient.result within c.coefficient.ensures.size c.loop-k.invariant.sized;
     }
 
 pub returns-clause-holds : goal.returns-clause-holds

@@ -9,12 +9,12 @@ use Rattle.interval_num.specs.declared.enc.Enc.{Enc}
 use Rattle.enclosure_sizes.specs.Size.{SizedBy}
 use Rattle.dec_tables.specs.Coefficients.{term_of}
 use Rattle.dec_tables.specs.Parts.{part_coefficient}
-use Rattle.dec_tables.specs.Sizes.{total_size}
+use Rattle.dec_tables.specs.Sizes.{share_size, total_size}
 use Rattle.dec_tables.proofs.collapsing.collapse.Given as goal
 
 abbrev pub invariant-loop-k : goal.invariant-loop-k
 invariant-loop-k g l = record {
   size : length l.coef ≡ g.row.N;
   holds : (v : Fraction) → Holds 56 l.x.lo l.x.hi (eighth_of v) → (i : ℕ) (e : Enc g.row.S) → i < l.k → slice_get l.coef i ≡ Some e → Holds g.row.S e.lo e.hi (part_coefficient l.part v i);
-  sized : (i : ℕ) (e : Enc g.row.S) → i < l.k → slice_get l.coef i ≡ Some e → SizedBy (total_size l.part i (map term_of region1)) 0 e.lo e.hi;
+  sized : (i : ℕ) (e : Enc g.row.S) → i < l.k → slice_get l.coef i ≡ Some e → SizedBy (total_size (share_size l.part i) (map term_of region1)) 0 e.lo e.hi;
 }

@@ -3,7 +3,7 @@ use Rattle.std.proofs.lemmas.Int.{ints}
 use Rattle.enclosure_sizes.specs.Size.{Size, SizedBy}
 use Rattle.enclosure_sizes.proofs.Sizes.{Sized-power}
 use Rattle.dec_tables.specs.Sizes.{x_size}
-use Rattle.dec_tables.proofs.Scaling.{Holds-one, x_power_size-positive}
+use Rattle.dec_tables.proofs.Scaling.{Holds-one, unit_power_size-positive}
 use Rattle.dec_tables.proofs.scaled.x_power.Goals as goal
 
 pub returns-then-n-eq0-clause-holds : goal.returns-then-n-eq0-clause-holds
@@ -14,5 +14,5 @@ pub returns-else-n-eq0-clause-size : goal.returns-else-n-eq0-clause-size
 returns-else-n-eq0-clause-size c =
     let some : 0 < c.args.n = omega (arith, c.if-n-eq0.false) in
     let P : Size → Type 0 = λ t. SizedBy t 0 c.powi.result.lo c.powi.result.hi in
-    subst P (sym (x_power_size-positive c.args.n some))
+    subst P (sym (unit_power_size-positive c.args.n x_size some))
     (Sized-power 56 c.args.n x_size.most x_size.base x_size.per 0 c.args.x.lo c.args.x.hi c.powi.result.lo c.powi.result.hi c.requires.low c.args.x.ordered c.powi.result.ordered c.powi.ensures.ends c.requires.size)

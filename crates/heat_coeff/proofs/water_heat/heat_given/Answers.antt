@@ -3,7 +3,7 @@ use Rattle.std.proofs.lemmas.Int.{ints}
 use Rattle.heat_coeff.proofs.water_heat.heat_given.Goals as goal
 
 pub returns-clause-most : goal.returns-clause-most
-returns-clause-most c = omega (arith, ints, c.enthalpy.ensures.most, c.enthalpy-2.ensures.least, c.sub.ensures.hi)
+returns-clause-most c = omega (arith, ints, c.enthalpy_at.ensures.most, c.enthalpy_at-2.ensures.least, c.sub.ensures.hi)
 
 pub returns-clause-width : goal.returns-clause-width
-returns-clause-width c = omega (arith, ints, c.enthalpy.ensures.closer, c.enthalpy-2.ensures.closer, c.sub.ensures.lo, c.sub.ensures.hi)
+returns-clause-width c = omega (arith, ints, c.enthalpy_at.ensures.closer, c.enthalpy_at-2.ensures.closer, c.sub.ensures.lo, c.sub.ensures.hi)

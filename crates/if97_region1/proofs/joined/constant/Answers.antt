@@ -1,8 +1,7 @@
-use Rattle.std.proofs.Common.{◌≡◌, ◌*◌, ◌^◌, length, get_or, arith, lit<, lit≤, refl, pos}
+use Rattle.std.proofs.Common.{◌≡◌, ◌*◌, ◌^◌, length, get_or, arith, lit<, lit≤}
 use Rattle.std.proofs.lemmas.Int.{ints}
 use Rattle.std.specs.Prelude.{slice_get, Some}
 use Rattle.std.proofs.lemmas.Option.{slice_get-get_or}
-use Rattle.number_model.proofs.Order.{IsRatio-written}
 use Rattle.table_model.specs.Tables.{volume_up}
 use Rattle.interval_num.specs.declared.enc.Enc.{Enc}
 use Rattle.enclosure_sizes.specs.Size.{Size, SizedBy, parts}
@@ -11,7 +10,7 @@ use Rattle.dec_tables.specs.declared.part.Part.TheVariants.{VolumeUp}
 use Rattle.dec_tables.specs.Sizes.{coefficient_size}
 use Rattle.region1_algebra.specs.TableForms.{y_offset, linear_of}
 use Rattle.if97_region1.specs.Sizes.{offset_size}
-use Rattle.if97_region1.proofs.Facts.{finer, widened, room, offset_sized, sized_products, width_of_point}
+use Rattle.if97_region1.proofs.Facts.{finer, widened, room, sized_products, width_of_point}
 use Rattle.if97_region1.proofs.Computed.{first_within, offset_within, offset_product}
 use Rattle.if97_region1.proofs.joined.constant.Goals as goal
 
@@ -32,8 +31,8 @@ scale_to-first-requires c =
 
 pub mul-requires : goal.mul-requires
 mul-requires c =
-    let offset : SizedBy offset_size 0 c.of_ratio.result.lo c.of_ratio.result.hi = rw (c.of_ratio.ensures.lo, c.of_ratio.ensures.hi) (offset_sized 0) in
-    (lit< tt, sized_products _ _ _ _ _ _ _ _ _ _ _ _ c.of_ratio.result.ordered c.args.linear.ordered offset (c.requires.linear 0) offset_product)
+    let offset : SizedBy offset_size 0 c.offset_of_y.result.lo c.offset_of_y.result.hi = c.offset_of_y.ensures.sized 0 in
+    (lit< tt, sized_products _ _ _ _ _ _ _ _ _ _ _ _ c.offset_of_y.result.ordered c.args.linear.ordered offset (c.requires.linear 0) offset_product)
 
 pub sub-requires : goal.sub-requires
 sub-requires c =
@@ -42,9 +41,9 @@ sub-requires c =
     let read : slice_get c.args.up.now.coef 0 ≡ Some e = slice_get-get_or c.args.up.now.coef 0 c.index-up-0.result (omega (arith, full)) in
     let first : SizedBy first_bound 0 c.scale_to-first.result.lo c.scale_to-first.result.hi =
     rw (c.scale_to-first.ensures.lo, c.scale_to-first.ensures.hi) (widened first_within 0 _ _ (finer 48 56 (lit≤ tt) (coefficient_size VolumeUp 0) 0 e.lo e.hi (c.requires.up.1.sized 0 e read 0))) in
-    let offset : SizedBy offset_size 0 c.of_ratio.result.lo c.of_ratio.result.hi = rw (c.of_ratio.ensures.lo, c.of_ratio.ensures.hi) (offset_sized 0) in
+    let offset : SizedBy offset_size 0 c.offset_of_y.result.lo c.offset_of_y.result.hi = c.offset_of_y.ensures.sized 0 in
     let product : SizedBy product_bound 0 c.mul.result.lo c.mul.result.hi =
-    rw (c.mul.ensures.lo, c.mul.ensures.hi) (widened offset_within 0 _ _ (Sized-product 56 _ _ _ _ _ _ 0 c.of_ratio.result.lo c.of_ratio.result.hi c.args.linear.lo c.args.linear.hi c.of_ratio.result.ordered c.args.linear.ordered offset (c.requires.linear 0))) in
+    rw (c.mul.ensures.lo, c.mul.ensures.hi) (widened offset_within 0 _ _ (Sized-product 56 _ _ _ _ _ _ 0 c.offset_of_y.result.lo c.offset_of_y.result.hi c.args.linear.lo c.args.linear.hi c.offset_of_y.result.ordered c.args.linear.ordered offset (c.requires.linear 0))) in
     (lit< tt, (omega (arith, ints, first.low, product.high), omega (arith, ints, first.high, product.low)))
 
 pub returns-clause-holds : goal.returns-clause-holds
@@ -53,7 +52,7 @@ returns-clause-holds c = λ x part lin.
     let full : length c.args.up.now.coef ≡ 18 = omega arith in
     let read : slice_get c.args.up.now.coef 0 ≡ Some e = slice_get-get_or c.args.up.now.coef 0 c.index-up-0.result (omega (arith, full)) in
     c.sub.ensures.holds (volume_up x 0) _ (c.scale_to-first.ensures.holds (volume_up x 0) (part.holds 0 e read))
-    (c.mul.ensures.holds y_offset (linear_of x) (c.of_ratio.ensures.holds y_offset (IsRatio-written (pos 1222) (pos 1000) y_offset refl refl)) lin)
+    (c.mul.ensures.holds y_offset (linear_of x) c.offset_of_y.ensures.holds lin)
 
 pub returns-clause-width : goal.returns-clause-width
 returns-clause-width c =
@@ -62,9 +61,9 @@ returns-clause-width c =
     let read : slice_get c.args.up.now.coef 0 ≡ Some e = slice_get-get_or c.args.up.now.coef 0 c.index-up-0.result (omega (arith, full)) in
     let first : SizedBy first_bound 0 c.scale_to-first.result.lo c.scale_to-first.result.hi =
     rw (c.scale_to-first.ensures.lo, c.scale_to-first.ensures.hi) (widened first_within 0 _ _ (finer 48 56 (lit≤ tt) (coefficient_size VolumeUp 0) 0 e.lo e.hi (c.requires.up.1.sized 0 e read 0))) in
-    let offset : SizedBy offset_size 0 c.of_ratio.result.lo c.of_ratio.result.hi = rw (c.of_ratio.ensures.lo, c.of_ratio.ensures.hi) (offset_sized 0) in
+    let offset : SizedBy offset_size 0 c.offset_of_y.result.lo c.offset_of_y.result.hi = c.offset_of_y.ensures.sized 0 in
     let product : SizedBy product_bound 0 c.mul.result.lo c.mul.result.hi =
-    rw (c.mul.ensures.lo, c.mul.ensures.hi) (widened offset_within 0 _ _ (Sized-product 56 _ _ _ _ _ _ 0 c.of_ratio.result.lo c.of_ratio.result.hi c.args.linear.lo c.args.linear.hi c.of_ratio.result.ordered c.args.linear.ordered offset (c.requires.linear 0))) in
+    rw (c.mul.ensures.lo, c.mul.ensures.hi) (widened offset_within 0 _ _ (Sized-product 56 _ _ _ _ _ _ 0 c.offset_of_y.result.lo c.offset_of_y.result.hi c.args.linear.lo c.args.linear.hi c.offset_of_y.result.ordered c.args.linear.ordered offset (c.requires.linear 0))) in
     let one = width_of_point _ 5120 0 _ _ first in
     let two = width_of_point _ 1567 1 _ _ product in
     omega (arith, ints, one, two, c.sub.ensures.lo, c.sub.ensures.hi)

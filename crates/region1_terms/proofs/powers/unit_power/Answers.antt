@@ -2,7 +2,7 @@ use Rattle.std.proofs.Common.{◌<◌, arith, sym, subst}
 use Rattle.std.proofs.lemmas.Int.{ints}
 use Rattle.enclosure_sizes.specs.Size.{Size, SizedBy}
 use Rattle.enclosure_sizes.proofs.Sizes.{Sized-power}
-use Rattle.region1_terms.proofs.Scaled.{Holds-one, unit_power_size-positive}
+use Rattle.dec_tables.proofs.Scaling.{Holds-one, unit_power_size-positive}
 use Rattle.region1_terms.proofs.powers.unit_power.Goals as goal
 
 pub returns-then-n-eq0-clause-holds : goal.returns-then-n-eq0-clause-holds

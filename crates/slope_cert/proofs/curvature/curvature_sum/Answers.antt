@@ -1,150 +1,44 @@
-use Rattle.std.proofs.Common.{List, [], ◌∷◌}
-use native.Mathlib.Nat.{le_trans}
-use Rattle.interval_num.specs.declared.enc.Enc.{Enc}
-use Rattle.number_model.proofs.Same.{Holds-same, same_mul, same_refl, same_sym}
-use Rattle.region1_sums.proofs.Each.{EvaluatesEach, each_magnitude, each_sized}
-use Rattle.slope_cert.specs.Curvature.{curvature_of, curved}
-use Rattle.slope_cert.proofs.Order.{Quotient-holds}
-use Rattle.slope_cert.proofs.Rooms.{curved_room}
-use Rattle.slope_cert.proofs.Sums.{heat_quotient}
-use Rattle.slope_cert.proofs.Quotients.{apart, y_inverse}
+use Rattle.std.proofs.Common.{◌≡◌, ◌+◌, ◌<◌, arith, lit<, rules, length, take, take_all}
+use Rattle.std.proofs.lemmas.Int.{ints}
+use Rattle.dec_tables.proofs.Sums.{size_none, size_more, size_most}
+use Rattle.slope_cert.specs.Curvature.{curvature_size, curvature_sum_size}
+use Rattle.slope_cert.proofs.Derived.{row_curves}
+use Rattle.slope_cert.proofs.Rooms.{curvature_room}
+use Rattle.slope_cert.proofs.Sums.{no_change, one_more_change, one_more_size, quotient_held}
 use Rattle.slope_cert.proofs.curvature.curvature_sum.Goals as goal
-use Rattle.slope_cert.proofs.curvature.curvature_sum.Goals.{After-curvature-27}
 
-terms : After-curvature-27 → List (Enc 56)
-terms c =
-    c.curvature.result ∷
-    c.curvature-2.result ∷
-    c.curvature-3.result ∷
-    c.curvature-4.result ∷
-    c.curvature-5.result ∷
-    c.curvature-6.result ∷
-    c.curvature-7.result ∷
-    c.curvature-8.result ∷
-    c.curvature-9.result ∷
-    c.curvature-10.result ∷
-    c.curvature-11.result ∷
-    c.curvature-12.result ∷
-    c.curvature-13.result ∷
-    c.curvature-14.result ∷
-    c.curvature-15.result ∷
-    c.curvature-16.result ∷
-    c.curvature-17.result ∷
-    c.curvature-18.result ∷
-    c.curvature-19.result ∷
-    c.curvature-20.result ∷
-    c.curvature-21.result ∷
-    c.curvature-22.result ∷
-    c.curvature-23.result ∷
-    c.curvature-24.result ∷
-    c.curvature-25.result ∷
-    c.curvature-26.result ∷
-    c.curvature-27.result ∷
-    []
+pub loop-term-init : goal.loop-term-init
+loop-term-init c = record { holds = search (rules, no_change); size = search (rules, size_none) }
 
-each : (c : After-curvature-27) → EvaluatesEach c.args.v.now.pressure c.args.v.now.span.lo c.args.v.now.span.hi curvature_of curved (terms c)
-unfolding terms curved
-each c = (
-  c.curvature.ensures,
-  (
-    c.curvature-2.ensures,
-    (
-      c.curvature-3.ensures,
-      (
-        c.curvature-4.ensures,
-        (
-          c.curvature-5.ensures,
-          (
-            c.curvature-6.ensures,
-            (
-              c.curvature-7.ensures,
-              (
-                c.curvature-8.ensures,
-                (
-                  c.curvature-9.ensures,
-                  (
-                    c.curvature-10.ensures,
-                    (
-                      c.curvature-11.ensures,
-                      (
-                        c.curvature-12.ensures,
-                        (
-                          c.curvature-13.ensures,
-                          (
-                            c.curvature-14.ensures,
-                            (
-                              c.curvature-15.ensures,
-                              (
-                                c.curvature-16.ensures,
-                                (
-                                  c.curvature-17.ensures,
-                                  (
-                                    c.curvature-18.ensures,
-                                    (
-                                      c.curvature-19.ensures,
-                                      (
-                                        c.curvature-20.ensures,
-                                        (
-                                          c.curvature-21.ensures,
-                                          (
-                                            c.curvature-22.ensures,
-                                            (
-                                              c.curvature-23.ensures,
-                                              (
-                                                c.curvature-24.ensures,
-                                                (
-                                                  c.curvature-25.ensures,
-                                                  (
-                                                    c.curvature-26.ensures,
-                                                    (
-                                                      c.curvature-27.ensures,
-                                                      tt,
-                                                    ),
-                                                  ),
-                                                ),
-                                              ),
-                                            ),
-                                          ),
-                                        ),
-                                      ),
-                                    ),
-                                  ),
-                                ),
-                              ),
-                            ),
-                          ),
-                        ),
-                      ),
-                    ),
-                  ),
-                ),
-              ),
-            ),
-          ),
-        ),
-      ),
-    ),
-  ),
-)
+pub curvature-requires : goal.curvature-requires
+curvature-requires c =
+    let few : c.loop-term.term-index < length c.region1_table-table.result.terms = omega (arith, c.loop-term-test.true) in
+    let has = row_curves c.loop-term.term-index _ (rw c.region1_table-table.ensures at few) in
+    rw c.region1_table-table.ensures (record { power = has.power; mantissa = has.mantissa; fits = has.fits })
 
-pub total-requires : goal.total-requires
-unfolding terms
-total-requires c =
-    let here = (goal.at.total-requires c).After-curvature-27 in
-    le_trans (each_magnitude here.args.v.now.pressure here.args.v.now.span.lo here.args.v.now.span.hi curvature_of curved (terms here) (each here)) curved_room
+pub add-sum-requires : goal.add-sum-requires
+unfolding curvature_sum_size
+add-sum-requires c =
+    let few : c.loop-term.term-index < length c.region1_table-table.result.terms = omega (arith, c.loop-term-test.true) in
+    let z = size_more curvature_size _ c.region1_table-table.result.terms c.loop-term.term-index _ _ _ _ _ few c.loop-term.invariant.size c.curvature.ensures.sized in
+    let most = size_most curvature_size c.region1_table-table.result.terms (c.loop-term.term-index + 1) in
+    let room = rw (← c.region1_table-table.ensures) at curvature_room in
+    (lit< tt, (omega (arith, ints, z.low, most, room), omega (arith, ints, z.high, most, room)))
+
+pub loop-term-preserved : goal.loop-term-preserved
+loop-term-preserved c =
+    let few : c.loop-term.term-index < length c.region1_table-table.result.terms = omega (arith, c.loop-term-test.true) in
+    record { holds = search (rules, one_more_change); size = search (rules, one_more_size) }
 
 pub returns-clause-holds : goal.returns-clause-holds
-unfolding terms
-returns-clause-holds c = λ t1 t2 s1 s2 less.
-    let here = (goal.at.returns-clause-holds c).After-curvature-27 in
-    let span = here.args.v.now.span in
-    let w = apart span.lo span.hi span.ordered span.in_range t1 t2 s1 s2 less in
-    rw (c.total.ensures.lo, c.total.ensures.hi)
-    (Holds-same (same_mul (same_refl _) (same_sym (y_inverse span.lo span.hi span.ordered span.in_range t1 t2 s1 s2 less)))
-    (Quotient-holds 56 _ _ _ _ _ w.n_above w.e_above (heat_quotient here.args.v.now.pressure span.lo span.hi t1 t2 s1 s2 _ _ _ _ w (terms here) (each here))))
+returns-clause-holds c =
+    let span = c.args.v.now.span in
+    let all : take c.loop-term.term-index c.region1_table-table.result.terms ≡ c.region1_table-table.result.terms = take_all c.loop-term.term-index c.region1_table-table.result.terms (omega (arith, c.loop-term-test.false)) in
+    let held = rw (all, c.region1_table-table.ensures) at c.loop-term.invariant.holds in
+    quotient_held c.args.x.now.pressure span.lo span.hi span.ordered span.in_range c.loop-term.sum.lo c.loop-term.sum.hi held
 
 pub returns-clause-sized : goal.returns-clause-sized
-unfolding terms
+unfolding curvature_sum_size
 returns-clause-sized c =
-    let here = (goal.at.returns-clause-sized c).After-curvature-27 in
-    rw (c.total.ensures.lo, c.total.ensures.hi) (each_sized here.args.v.now.pressure here.args.v.now.span.lo here.args.v.now.span.hi curvature_of curved (terms here) (each here))
+    let all : take c.loop-term.term-index c.region1_table-table.result.terms ≡ c.region1_table-table.result.terms = take_all c.loop-term.term-index c.region1_table-table.result.terms (omega (arith, c.loop-term-test.false)) in
+    rw (all, c.region1_table-table.ensures) at c.loop-term.invariant.size

@@ -8,13 +8,13 @@ use Rattle.slope_cert.proofs.slopes.slope_within.Goals as goal
 
 pub returns-clause-holds : goal.returns-clause-holds
 returns-clause-holds c = λ t1 t2 s1 s2 less.
-    let holds = rw (c.over.ensures.span, c.over.ensures.pressure) at c.slope_over.ensures.holds in
+    let holds = rw c.over.ensures at c.slope_over.ensures.holds in
     rw (c.in_billionths.ensures.lo, c.in_billionths.ensures.hi)
-    (billionths_hold c.slope_over.result.lo c.slope_over.result.hi (enthalpy_slope c.args.p_kpa t1 t2) (holds t1 t2 s1 s2 less))
+    (billionths_hold c.slope_over.result.lo c.slope_over.result.hi (enthalpy_slope c.args.x.now.pressure t1 t2) (holds t1 t2 s1 s2 less))
 
 pub returns-clause-width : goal.returns-clause-width
 returns-clause-width c =
-    let sized = rw c.over.ensures.span at c.slope_over.ensures.sized in
+    let sized = rw c.over.ensures at c.slope_over.ensures.sized in
     let d = c.args.span.hi - c.args.span.lo in
     rw (c.in_billionths.ensures.lo, c.in_billionths.ensures.hi)
     (billionths_width d c.slope_over.result.lo c.slope_over.result.hi c.requires.degree

@@ -1,4 +1,4 @@
-use Rattle.std.proofs.Common.{◌≡◌, ℕ, ◌+◌, ◌-◌, ◌≤◌, arith, sym, Some, subst, ◌⊎◌, inl, inr}
+use Rattle.std.proofs.Common.{◌≡◌, ℕ, ◌+◌, ◌-◌, ◌≤◌, arith, rules, sym, Some, subst, ◌⊎◌, inl, inr}
 use Rattle.interval_num.specs.declared.span.Span.{Span}
 use Rattle.sensor_pair.specs.declared.verdict.Verdict.{Verdict}
 use Rattle.sensor_pair.specs.Verdict.{IsCounts, IfCounts}
@@ -28,7 +28,7 @@ returns-in-Counts c =
     (record {
       flow_cell = rw c.of.ensures.flow both.0;
       return_cell = rw c.of.ensures.ret both.1;
-      holds = rw (c.of.ensures.flow, c.of.ensures.ret, ← c.requires) c.litre_energy.ensures.holds;
+      holds = rw (c.of.ensures.flow, c.of.ensures.ret, ← c.requires) (search rules);
       low = c.of.ensures.low;
       high = c.of.ensures.high;
       closer = rw (c.of.ensures.flow, c.of.ensures.ret) c.of.ensures.closer;
@@ -36,11 +36,11 @@ returns-in-Counts c =
     c.of.ensures.size c.of.ensures.faulty
 
 pub returns-in-Small : goal.returns-in-Small
-returns-in-Small c = adds_small c.args.self c.none.result (c.judge.ensures.small.0 c.in-Small.is) c.none.ensures.energy c.none.ensures.bound c.none.ensures.faulty
+returns-in-Small c = adds_small c.args.self c.none.result (c.judge.ensures.small.0 c.in-Small.is) c.none.ensures.energy c.none.ensures.bound (cc)
 
 pub returns-in-FlowOut : goal.returns-in-FlowOut
 returns-in-FlowOut c = by_sample c.in-FlowOut.is where
   by_sample : (c.judge.result ≡ FlowOut) ⊎ ((c.judge.result ≡ ReturnOut) ⊎ (c.judge.result ≡ BothOut)) → AddsLitre (Some c.args.self) c.none-in-FlowOut.result
-  by_sample (inl is) = adds_flow_out c.args.self c.none-in-FlowOut.result (c.judge.ensures.flow_out.0 is).0 c.none-in-FlowOut.ensures.energy c.none-in-FlowOut.ensures.bound c.none-in-FlowOut.ensures.faulty
-  by_sample (inr (inl is)) = adds_return_out c.args.self c.none-in-FlowOut.result (c.judge.ensures.return_out.0 is).1 c.none-in-FlowOut.ensures.energy c.none-in-FlowOut.ensures.bound c.none-in-FlowOut.ensures.faulty
-  by_sample (inr (inr is)) = adds_flow_out c.args.self c.none-in-FlowOut.result (c.judge.ensures.both_out.0 is).0 c.none-in-FlowOut.ensures.energy c.none-in-FlowOut.ensures.bound c.none-in-FlowOut.ensures.faulty
+  by_sample (inl is) = adds_flow_out c.args.self c.none-in-FlowOut.result (c.judge.ensures.flow_out.0 is).0 c.none-in-FlowOut.ensures.energy c.none-in-FlowOut.ensures.bound (cc)
+  by_sample (inr (inl is)) = adds_return_out c.args.self c.none-in-FlowOut.result (c.judge.ensures.return_out.0 is).1 c.none-in-FlowOut.ensures.energy c.none-in-FlowOut.ensures.bound (cc)
+  by_sample (inr (inr is)) = adds_flow_out c.args.self c.none-in-FlowOut.result (c.judge.ensures.both_out.0 is).0 c.none-in-FlowOut.ensures.energy c.none-in-FlowOut.ensures.bound (cc)

@@ -7,14 +7,18 @@ use Rattle.number_model.proofs.Same.{Holds-same}
 use Rattle.water_model.specs.Decimal.{decimal, whole_power}
 use Rattle.water_model.specs.Water.{x_of, y_of}
 use Rattle.dec_tables.specs.Coefficients.{coefficient_of}
+use Rattle.dec_tables.proofs.Scaling.{room_size}
 use Rattle.region1_terms.specs.Variables.{x_size}
 use Rattle.region1_terms.specs.Monomial.{y_shift, coefficient_size, monomial_size}
-use Rattle.region1_terms.proofs.Coefficients.{Fits-fits, room_size, Sized-coefficient, coefficient_range}
+use Rattle.region1_terms.proofs.Coefficients.{Fits-fits, Sized-coefficient, coefficient_range}
 use Rattle.region1_terms.proofs.Scaled.{term_same}
 use Rattle.region1_terms.proofs.variables.Variables.monomial.Goals as goal
 
 pub unit_power-requires-clause-most : goal.unit_power-requires-clause-most
 unit_power-requires-clause-most c = rw c.from.ensures (Fits-fits c.args.t.now c.requires).i
+
+pub unit_power-requires-clause-high : goal.unit_power-requires-clause-high
+unit_power-requires-clause-high c = let z = c.args.x.now.sized 0 in omega (arith, ints, z.high)
 
 pub y_power-requires-clause-low : goal.y_power-requires-clause-low
 y_power-requires-clause-low c =
@@ -81,11 +85,11 @@ returns c =
     let i_is : c.from.result ≡ c.args.t.now.i = c.from.ensures in
     let y_holds = simp to_z-of_z at c.y_power.ensures.holds in
     let y_sized = simp to_z-of_z at c.y_power.ensures.size in
-    let x_sized = rw i_is at (c.unit_power.ensures.size x_size _ c.args.self.now.sized.x) in
+    let x_sized = rw i_is at (c.unit_power.ensures.size x_size _ (c.args.x.now.sized (c.args.self.now.span.hi - c.args.self.now.span.lo))) in
     record {
       holds = λ t s.
-          let x_holds = rw i_is at (c.unit_power.ensures.holds (x_of c.args.self.now.pressure *ℚ part 8 (lit< tt)) c.args.self.now.holds.x) in
-          Holds-same (term_same (coefficient_of c.args.t.now) (x_of c.args.self.now.pressure) (whole_power (y_of t) c.args.t.now.j) c.args.t.now.i (y_shift c.args.t.now.j) _ up_is)
+          let x_holds = rw i_is at (c.unit_power.ensures.holds (x_of c.args.x.now.pressure *ℚ part 8 (lit< tt)) c.args.x.now.holds) in
+          Holds-same (term_same (coefficient_of c.args.t.now) (x_of c.args.x.now.pressure) (whole_power (y_of t) c.args.t.now.j) c.args.t.now.i (y_shift c.args.t.now.j) _ up_is)
           (c.scaled_product.ensures.holds _ _ c.enclose.ensures.holds (c.unit_product-powers.ensures.holds _ _ x_holds (y_holds t s)));
       sized = c.scaled_product.ensures.size (coefficient_size c.args.t.now) _ _ (Sized-coefficient c.args.t.now _ _ _ _ up_is c.enclose.ensures.width c.enclose.ensures.holds) (c.unit_product-powers.ensures.size _ _ _ x_sized y_sized);
     }

@@ -7,20 +7,20 @@ use Rattle.number_model.proofs.Same.{Holds-same}
 use Rattle.water_model.specs.Water.{y_of}
 use Rattle.enclosure_sizes.specs.Size.{Size, SizedBy}
 use Rattle.region1_terms.specs.Variables.{y_size, z_size}
-use Rattle.region1_terms.proofs.Scaled.{y_rising, y_falling, y_raised, below_of, y_power_size-rising, y_power_size-falling, y_power_size-raised}
+use Rattle.region1_terms.proofs.Scaled.{y_rising, y_falling, y_raised, above_of, below_of, y_power_size-rising, y_power_size-falling, y_power_size-raised}
 use Rattle.region1_terms.proofs.variables.Variables.y_power.Goals as goal
 
 pub returns-then-j-ge0-clause-holds : goal.returns-then-j-ge0-clause-holds
 returns-then-j-ge0-clause-holds c = λ t s.
     let fits : SFits w8 c.args.j = c.ranges.j in
-    let above : pos 0 ≤ℤ c.args.j = grind (arith, ints) in
+    let above : pos 0 ≤ℤ c.args.j = above_of c.args.j (simp to_z-of_z at c.if-j-ge0.true) in
     let n_is : c.from-n.result ≡ unsigned_abs c.args.j = c.from-n.ensures ∙ (simp to_z-of_z at c.unsigned_abs.ensures.value) in
     Holds-same (y_rising (y_of t) c.args.j c.from-n.result above n_is) (c.unit_power.ensures.holds (y_of t *ℚ part 4 (lit< tt)) (c.args.self.now.holds.y t s))
 
 pub returns-then-j-ge0-clause-size : goal.returns-then-j-ge0-clause-size
 returns-then-j-ge0-clause-size c =
     let fits : SFits w8 c.args.j = c.ranges.j in
-    let above : pos 0 ≤ℤ c.args.j = grind (arith, ints) in
+    let above : pos 0 ≤ℤ c.args.j = above_of c.args.j (simp to_z-of_z at c.if-j-ge0.true) in
     let n_is : c.from-n.result ≡ unsigned_abs c.args.j = c.from-n.ensures ∙ (simp to_z-of_z at c.unsigned_abs.ensures.value) in
     let P : Size → Type 0 = λ z. SizedBy z (c.args.self.now.span.hi - c.args.self.now.span.lo) c.unit_power.result.lo c.unit_power.result.hi in
     subst P (y_power_size-rising c.args.j c.from-n.result above n_is) (c.unit_power.ensures.size y_size _ c.args.self.now.sized.y)

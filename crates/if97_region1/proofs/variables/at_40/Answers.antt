@@ -1,0 +1,19 @@
+use Rattle.std.proofs.Common.{lit<, lit≤}
+use Rattle.region1_terms.specs.Variables.{z_size}
+use Rattle.if97_region1.proofs.Facts.{coarser}
+use Rattle.if97_region1.proofs.Scales.{room_at_40, zero_at_40, one_at_40}
+use Rattle.if97_region1.proofs.variables.at_40.Goals as goal
+
+pub scale_to-requires : goal.scale_to-requires
+scale_to-requires c =
+    let r = room_at_40 c.args.e.lo c.args.e.hi c.requires.low c.requires.high in
+    (lit< tt, (lit< tt, (lit≤ tt, (r.0, r.1))))
+
+pub returns-clause-low : goal.returns-clause-low
+returns-clause-low c = rw c.scale_to.ensures.lo (zero_at_40 c.args.e.lo c.requires.low)
+
+pub returns-clause-high : goal.returns-clause-high
+returns-clause-high c = rw c.scale_to.ensures.hi (one_at_40 c.args.e.hi c.requires.high)
+
+pub returns-clause-sized : goal.returns-clause-sized
+returns-clause-sized c = λ d z. rw (c.scale_to.ensures.lo, c.scale_to.ensures.hi) (coarser 56 40 (lit≤ tt) z_size d c.args.e.lo c.args.e.hi z)
