@@ -9,7 +9,7 @@ use Rattle.script_model.specs.Lines.{words_of}
 use Rattle.script_model.specs.Grammar.{end_at}
 
 -- what `position` says of the first place
-some_step : (b : Bool) (n at : ℕ) → cond b (Some n) None ≡ Some at → (b ≡ true) × (n ≡ at)
+pub some_step : (b : Bool) (n at : ℕ) → cond b (Some n) None ≡ Some at → (b ≡ true) × (n ≡ at)
 some_step true n at e = (refl, cc)
 some_step false n at e = cc
 

@@ -12,11 +12,11 @@ use Rattle.event_script.proofs.Cuts.{place, no_place}
 
 -- ---- no end
 
-and_step : (a b : Bool) → a && b ≡ true → (a ≡ true) × (b ≡ true)
+pub and_step : (a b : Bool) → a && b ≡ true → (a ≡ true) × (b ≡ true)
 and_step true b e = (refl, e)
 and_step false b e = absurd cc
 
-and_both : (a b : Bool) → a ≡ true → b ≡ true → a && b ≡ true
+pub and_both : (a b : Bool) → a ≡ true → b ≡ true → a && b ≡ true
 and_both true b e f = f
 and_both false b e f = absurd cc
 

@@ -6,3 +6,4 @@ pub mod Held
 pub mod Ends
 pub mod Nexts
 pub mod Says
+pub mod Pulses

@@ -15,13 +15,13 @@ use Rattle.event_script.specs.declared.next.Next.TheVariants.{Got, Bad, End, Rea
 use Rattle.event_script.proofs.Ends.{end_within, ended, nothing_behind, only_line, open_front, rest_is, says_nothing, still}
 
 -- a line with its end
-gives_ended : (n : ℕ) (held left held' left' : List ℕ) (len : ℕ) (r : EndsBehind held len) (answer : Next) → left' ≡ left → GivesLine n (take len held) answer (drop (len + 1) held) held' → NextGives n (held ++ left) answer (held' ++ left')
-gives_ended n held left held' left' len r answer same h =
+gives_ended : (n : ℕ) (held left held' left' : List ℕ) (len : ℕ) (r : EndsBehind held len) (answer : Next) (message : List ℕ) → left' ≡ left → GivesLine n (take len held) answer message (drop (len + 1) held) held' → NextGives n (held ++ left) answer message (held' ++ left')
+gives_ended n held left held' left' len r answer message same h =
     let bytes : held ++ left ≡ take len held ++ 10 ∷ (r.rest ++ left) = ap (λ xs. xs ++ left) r.is ∙ append_assoc (take len held) (10 ∷ r.rest) left in
     let e = ended (take len held) (r.rest ++ left) r.front in
     let first : lines_of (held ++ left) ≡ take len held ∷ lines_of (r.rest ++ left) = ap lines_of bytes ∙ e.0 in
     by_answer answer h first (ap after_line bytes ∙ e.1) where
-      by_answer : (answer : Next) → GivesLine n (take len held) answer (drop (len + 1) held) held' → lines_of (held ++ left) ≡ take len held ∷ lines_of (r.rest ++ left) → after_line (held ++ left) ≡ r.rest ++ left → NextGives n (held ++ left) answer (held' ++ left')
+      by_answer : (answer : Next) → GivesLine n (take len held) answer message (drop (len + 1) held) held' → lines_of (held ++ left) ≡ take len held ∷ lines_of (r.rest ++ left) → after_line (held ++ left) ≡ r.rest ++ left → NextGives n (held ++ left) answer message (held' ++ left')
       by_answer (Got said) h first behind =
           let rest : held' ++ left' ≡ r.rest ++ left = (λ i. (h.1 ∙ rest_is held len r) i ++ same i) in
           record { line = take len held; first = record { lines = first ∙ ap (λ xs. take len held ∷ lines_of xs) (sym rest); after = rest ∙ sym behind }; says = h.0 }
@@ -30,9 +30,9 @@ gives_ended n held left held' left' len r answer same h =
       by_answer ReadFault h first behind = absurd h
 
 -- a line that is too long, or one too many, as far as it is held
-gives_too_many : (n : ℕ) (held left held' left' : List ℕ) → has_no_end held ≡ true → 0 < length held → AreTooMany n (length held) → (answer : Next) → GivesLine n (take (length held) held) answer (drop (length held + 1) held) held' → NextGives n (held ++ left) answer (held' ++ left')
-gives_too_many n held left held' left' clear some many answer h = by_answer answer (subst (λ xs. GivesLine n xs answer (drop (length held + 1) held) held') (take-length held) h) where
-  by_answer : (answer : Next) → GivesLine n held answer (drop (length held + 1) held) held' → NextGives n (held ++ left) answer (held' ++ left')
+gives_too_many : (n : ℕ) (held left held' left' : List ℕ) → has_no_end held ≡ true → 0 < length held → AreTooMany n (length held) → (answer : Next) (message : List ℕ) → GivesLine n (take (length held) held) answer message (drop (length held + 1) held) held' → NextGives n (held ++ left) answer message (held' ++ left')
+gives_too_many n held left held' left' clear some many answer message h = by_answer answer (subst (λ xs. GivesLine n xs answer message (drop (length held + 1) held) held') (take-length held) h) where
+  by_answer : (answer : Next) → GivesLine n held answer message (drop (length held + 1) held) held' → NextGives n (held ++ left) answer message (held' ++ left')
   by_answer (Got said) h = absurd (says_nothing n held many h.0.few h.0.short)
   by_answer (Bad kind) h = let b = open_front held left clear some in record { line = held ++ b.more; first = record { lines = b.is ∙ ap (λ ls. (held ++ b.more) ∷ ls) (sym (ap (drop 1) b.is) ∙ sym (lines_of-after_line (held ++ left))); after = refl }; why = λ command r. still n held b.more (fault_view kind) command r many (h command r) }
   by_answer End h = absurd h
@@ -42,12 +42,12 @@ some_of : (n len : ℕ) → AreTooMany n len → 0 < len
 some_of n len (inl long) = omega (arith, long)
 some_of n len (inr many) = many.1
 
-pub gives_decided : (n : ℕ) (held left held' left' : List ℕ) (len : ℕ) → Decides n held len → (answer : Next) → left' ≡ left → GivesLine n (take len held) answer (drop (len + 1) held) held' → NextGives n (held ++ left) answer (held' ++ left')
-gives_decided n held left held' left' len (inl r) answer same h = gives_ended n held left held' left' len r answer same h
-gives_decided n held left held' left' len (inr d) answer same h =
+pub gives_decided : (n : ℕ) (held left held' left' : List ℕ) (len : ℕ) → Decides n held len → (answer : Next) (message : List ℕ) → left' ≡ left → GivesLine n (take len held) answer message (drop (len + 1) held) held' → NextGives n (held ++ left) answer message (held' ++ left')
+gives_decided n held left held' left' len (inl r) answer message same h = gives_ended n held left held' left' len r answer message same h
+gives_decided n held left held' left' len (inr d) answer message same h =
     let size : len ≡ length held = d.1 in
     let many : AreTooMany n (length held) = subst (AreTooMany n) size d.2 in
-    gives_too_many n held left held' left' d.0 (some_of n (length held) many) many answer (subst (λ k. GivesLine n (take k held) answer (drop (k + 1) held) held') size h)
+    gives_too_many n held left held' left' d.0 (some_of n (length held) many) many answer message (subst (λ k. GivesLine n (take k held) answer message (drop (k + 1) held) held') size h)
 
 -- so many bytes are held
 pub decided_within : (n : ℕ) (held : List ℕ) (len : ℕ) → Decides n held len → len ≤ length held
@@ -55,12 +55,12 @@ decided_within n held len (inl r) = omega (arith, end_within held len r)
 decided_within n held len (inr d) = omega (arith, d.1)
 
 -- the last line, which has no end
-pub gives_last : (n : ℕ) (held held' : List ℕ) → has_no_end held ≡ true → 0 < length held → (answer : Next) → GivesLine n (take (length held) held) answer (drop (length held + 1) held) held' → NextGives n held answer held'
-gives_last n held held' clear some answer h = by_answer answer (subst (λ xs. GivesLine n xs answer (drop (length held + 1) held) held') (take-length held) h) where
+pub gives_last : (n : ℕ) (held held' : List ℕ) → has_no_end held ≡ true → 0 < length held → (answer : Next) (message : List ℕ) → GivesLine n (take (length held) held) answer message (drop (length held + 1) held) held' → NextGives n held answer message held'
+gives_last n held held' clear some answer message h = by_answer answer (subst (λ xs. GivesLine n xs answer message (drop (length held + 1) held) held') (take-length held) h) where
   one : lines_of held ≡ held ∷ []
   one = only_line held clear some
 
-  by_answer : (answer : Next) → GivesLine n held answer (drop (length held + 1) held) held' → NextGives n held answer held'
+  by_answer : (answer : Next) → GivesLine n held answer message (drop (length held + 1) held) held' → NextGives n held answer message held'
   by_answer (Got said) h =
       let none : held' ≡ [] = h.1 ∙ drop_of_length-le held (omega arith) in
       record { line = held; first = record { lines = one ∙ ap (λ xs. held ∷ lines_of xs) (sym none); after = none ∙ sym (nothing_behind held clear) }; says = h.0 }

@@ -9,7 +9,7 @@ use Rattle.event_script.specs.declared.LineFault.{LineFault}
 use Rattle.event_script.specs.declared.LineFault.TheVariants.{Grammar, DateBack, PulsesFull, EventsFull, TooLong, TooMany, NotDry}
 use Rattle.event_script.specs.declared.next.Next.{Next}
 use Rattle.event_script.specs.declared.next.Next.TheVariants.{Got, Bad, End, ReadFault}
-use Rattle.event_script.specs.Views.{IsInRange, fault_view, line_view}
+use Rattle.event_script.specs.Views.{HasMessage, IsInRange, fault_view, line_view}
 
 -- the line after n lines says this, and is neither one too many nor too long
 pub record SaysAt (n : ℕ) (line : List ℕ) (said : grammar.Line) : Type 0 where
@@ -38,12 +38,12 @@ pub record RefusesNext (n : ℕ) (bytes : List ℕ) (kind : LineFault) : Type 0 
   pub first : IsFirst bytes line (after_line bytes)
   pub why : IsRefusedFor n line kind
 
--- what is answered where these bytes stand behind n lines, and which of them are left
-abbrev pub NextGives : ℕ → List ℕ → Next → List ℕ → Type 0
-NextGives n bytes (Got line) left = SaysNext n bytes (line_view line) left
-NextGives n bytes (Bad kind) left = RefusesNext n bytes kind
-NextGives n bytes End left = (bytes ≡ []) × (left ≡ [])
-NextGives n bytes ReadFault left = left ≡ bytes
+-- what is answered where these bytes stand behind n lines, with which message, and which of the bytes are left
+abbrev pub NextGives : ℕ → List ℕ → Next → List ℕ → List ℕ → Type 0
+NextGives n bytes (Got line) message left = SaysNext n bytes (line_view line message) left
+NextGives n bytes (Bad kind) message left = RefusesNext n bytes kind
+NextGives n bytes End message left = (bytes ≡ []) × (left ≡ [])
+NextGives n bytes ReadFault message left = left ≡ bytes
 
 -- the bytes of the last read were asked for where those before left the next line open
 pub record AsksWhereOpen (n : ℕ) (held left left' : List ℕ) : Type 0 where
@@ -75,6 +75,13 @@ GivesInRange (Bad kind) = IsOfLine kind
 GivesInRange End = Unit {0}
 GivesInRange ReadFault = Unit {0}
 
+-- the message of a line that was given has 1 byte at least
+abbrev pub GivesMessage : Next → List ℕ → Type 0
+GivesMessage (Got line) message = HasMessage line message
+GivesMessage (Bad kind) message = Unit {0}
+GivesMessage End message = Unit {0}
+GivesMessage ReadFault message = Unit {0}
+
 -- the first line ends behind the first bytes, so many
 pub record EndsBehind (bytes : List ℕ) (len : ℕ) : Type 0 where
   pub rest : List ℕ
@@ -90,9 +97,9 @@ AreTooMany n len = (max_line_len < len) ⊎ ((max_lines ≤ n) × (0 < len))
 abbrev pub Decides : (n : ℕ) (bytes : List ℕ) (len : ℕ) → Type 0
 Decides n bytes len = EndsBehind bytes len ⊎ ((has_no_end bytes ≡ true) × (len ≡ length bytes) × AreTooMany n len)
 
--- what is answered for this line, behind which these bytes are held, and what is held then
-abbrev pub GivesLine : ℕ → List ℕ → Next → List ℕ → List ℕ → Type 0
-GivesLine n line (Got said) behind left = SaysAt n line (line_view said) × (left ≡ behind)
-GivesLine n line (Bad kind) behind left = IsRefusedFor n line kind
-GivesLine n line End behind left = ⊥
-GivesLine n line ReadFault behind left = ⊥
+-- what is answered for this line, behind which these bytes are held, with which message, and what is held then
+abbrev pub GivesLine : ℕ → List ℕ → Next → List ℕ → List ℕ → List ℕ → Type 0
+GivesLine n line (Got said) message behind left = SaysAt n line (line_view said message) × (left ≡ behind)
+GivesLine n line (Bad kind) message behind left = IsRefusedFor n line kind
+GivesLine n line End message behind left = ⊥
+GivesLine n line ReadFault message behind left = ⊥

@@ -17,12 +17,13 @@ event_view (Sample rf rr) = events.Sample rf rr
 event_view (Pulse n) = events.Pulse n
 event_view (Date day) = events.Date day.number
 
-abbrev pub line_view : Line → grammar.Line
-line_view (Metering event) = grammar.Metering (event_view event)
-line_view Power = grammar.Power
-line_view (Cut n keep fill) = grammar.Cut n keep fill
-line_view (Opt message) = grammar.Opt message.items
-line_view (Mbus message) = grammar.Mbus message.items
+-- what a line says, beside which these bytes stand
+abbrev pub line_view : Line → List ℕ → grammar.Line
+line_view (Metering event) bytes = grammar.Metering (event_view event)
+line_view Power bytes = grammar.Power
+line_view (Cut n keep fill) bytes = grammar.Cut n keep fill
+line_view Opt bytes = grammar.Opt bytes
+line_view Mbus bytes = grammar.Mbus bytes
 
 abbrev pub fault_view : LineFault → faults.Fault
 fault_view (refused.Grammar at) = faults.Grammar at
@@ -34,8 +35,8 @@ fault_view refused.TooMany = faults.TooMany
 fault_view refused.NotDry = faults.NotDry
 
 -- what was read is what the definition says, and so is the place of the first wrong word
-abbrev pub Reads : Result Line Grammar → Result grammar.Line ℕ → Type 0
-Reads result said = MatchResult result (λ line. said ≡ Ok (line_view line)) (λ e. said ≡ Err e.at)
+abbrev pub Reads : Result Line Grammar → List ℕ → Result grammar.Line ℕ → Type 0
+Reads result bytes said = MatchResult result (λ line. said ≡ Ok (line_view line bytes)) (λ e. said ≡ Err e.at)
 
 -- a pulse event has 1 to 10^15 pulses
 abbrev pub IsEvent : Event → Type 0
@@ -43,13 +44,21 @@ IsEvent (Sample rf rr) = Unit {0}
 IsEvent (Pulse n) = (1 ≤ n) × (n ≤ 1000000000000000)
 IsEvent (Date day) = Unit {0}
 
--- a cut is within the first call or a later one, and keeps no more than the memory has; a message has 1 byte at least
+-- a cut is within the first call or a later one, and keeps no more than the memory has
 abbrev pub IsInRange : Line → Type 0
 IsInRange (Metering event) = IsEvent event
 IsInRange Power = Unit {0}
 IsInRange (Cut n keep fill) = (1 ≤ n) × (keep ≤ 16384)
-IsInRange (Opt message) = 1 ≤ length message.items
-IsInRange (Mbus message) = 1 ≤ length message.items
+IsInRange Opt = Unit {0}
+IsInRange Mbus = Unit {0}
+
+-- a message has 1 byte at least
+abbrev pub HasMessage : Line → List ℕ → Type 0
+HasMessage (Metering event) bytes = Unit {0}
+HasMessage Power bytes = Unit {0}
+HasMessage (Cut n keep fill) bytes = Unit {0}
+HasMessage Opt bytes = 1 ≤ length bytes
+HasMessage Mbus bytes = 1 ≤ length bytes
 
 -- the words that are left: none, or those of a text
 abbrev pub rest_words : Option (List ℕ) → List (List ℕ)

@@ -31,8 +31,8 @@ pub enum Event {
     Date { day: Day },
 }
 
-/// What a line of a script says.
-#[derive(Clone, Debug, PartialEq, Eq, Drop)]
+/// What a line of a script says. The bytes of an `opt` or `mbus` line stand beside it.
+#[derive(Clone, Copy, Debug, PartialEq, Eq)]
 pub enum Line {
     /// A metering event.
     Metering(Event),
@@ -42,9 +42,9 @@ pub enum Line {
     /// `keep` bytes are written, at most 16,384, and the byte `fill` in the place of each other one.
     Cut { n: u16, keep: u16, fill: u8 },
     /// A message to the optical head.
-    Opt(Message),
+    Opt,
     /// Bytes on the M-Bus.
-    Mbus(Message),
+    Mbus,
 }
 
 /// A line outside the grammar, with the place of its first wrong, missing or extra word, counted from 0.

@@ -3,9 +3,10 @@ ghost use Rattle.std.specs.Prelude.{◌≡◌, ◌≢◌, ◌+◌, ◌≤◌, �
 ghost use Rattle.journal_model.specs.Faults.{is_open};
 ghost use Rattle.meter_board.specs.Causes.{Rose};
 ghost use Rattle.event_script.specs.Held.{held};
-ghost use Rattle.event_script.specs.Next.{AsksWhereOpen, GivesInRange, GivesLine, NextGives, is_got};
+ghost use Rattle.event_script.specs.Next.{AsksWhereOpen, GivesInRange, GivesLine, GivesMessage, NextGives, is_got};
 
 use crate::buffer::Buffer;
+use crate::message::Message;
 use crate::next::{Next, first_len, judge};
 use meter_board::{Failed, Source};
 
@@ -14,6 +15,8 @@ use meter_board::{Failed, Source};
 #[derive(Debug, Drop)]
 pub struct Lines {
     buffer: Buffer,
+    /// The bytes of the `opt` or `mbus` line that was read last.
+    message: Message,
     /// How many lines were given.
     given: u32,
     has_ended: bool,
@@ -29,6 +32,7 @@ impl Lines {
     {
         Lines {
             buffer: Buffer::new(),
+            message: Message::new(),
             given: 0,
             has_ended: false,
         }
@@ -41,11 +45,19 @@ impl Lines {
         self.given
     }
 
+    /// The bytes of an `opt` or `mbus` line, where one was given last.
+    pub fn message(&self) -> &[u8]
+        ensures { result.now ≡ self.now.message.items }
+    {
+        self.message.as_slice()
+    }
+
     /// What comes next. Each answer but a line ends it.
     pub fn next<S: Source>(&mut self, source: &mut S) -> Next
         requires { self.old.has_ended ≡ false }
-        ensures gives { S.tells → NextGives self.old.given (held self.old.buffer ++ S.left source.old) result (held self.new.buffer ++ S.left source.new) }
+        ensures gives { S.tells → NextGives self.old.given (held self.old.buffer ++ S.left source.old) result self.new.message.items (held self.new.buffer ++ S.left source.new) }
         ensures range { GivesInRange result }
+        ensures message { GivesMessage result self.new.message.items }
         ensures given { self.new.given ≡ (if is_got result then self.old.given + 1 else self.old.given) }
         ensures has_ended { self.new.has_ended ≡ (if is_got result then false else true) }
         ensures open { result ≡ Next.ReadFault → is_open self.old.given (held self.new.buffer) ≡ true }
@@ -75,8 +87,9 @@ impl Lines {
     fn give_last(&mut self) -> Next
         requires open { is_open self.old.given (held self.old.buffer) ≡ true }
         requires fresh { self.old.has_ended ≡ false }
-        ensures gives { NextGives self.old.given (held self.old.buffer) result (held self.new.buffer) }
+        ensures gives { NextGives self.old.given (held self.old.buffer) result self.new.message.items (held self.new.buffer) }
         ensures range { GivesInRange result }
+        ensures message { GivesMessage result self.new.message.items }
         ensures given { self.new.given ≡ (if is_got result then self.old.given + 1 else self.old.given) }
         ensures has_ended { self.new.has_ended ≡ (if is_got result then false else true) }
         ensures fault { result ≢ Next.ReadFault }
@@ -93,14 +106,15 @@ impl Lines {
     fn give(&mut self, len: usize) -> Next
         requires len { len ≤ length (held self.old.buffer) }
         requires fresh { self.old.has_ended ≡ false }
-        ensures gives { GivesLine self.old.given (take len (held self.old.buffer)) result (drop (len + 1) (held self.old.buffer)) (held self.new.buffer) }
+        ensures gives { GivesLine self.old.given (take len (held self.old.buffer)) result self.new.message.items (drop (len + 1) (held self.old.buffer)) (held self.new.buffer) }
         ensures range { GivesInRange result }
+        ensures message { GivesMessage result self.new.message.items }
         ensures given { self.new.given ≡ (if is_got result then self.old.given + 1 else self.old.given) }
         ensures has_ended { self.new.has_ended ≡ (if is_got result then false else true) }
     {
         let held = self.buffer.held();
         let behind = held.len().min(len + 1);
-        match judge(&held[..len], self.given) {
+        match judge(&held[..len], self.given, &mut self.message) {
             Ok(line) => {
                 self.buffer.skip(behind);
                 self.given += 1;

@@ -39,10 +39,10 @@ fn a_long_line_comes(rt: &impl Abort, lines: &mut Lines, source: &mut SliceSourc
     requires { lines.old.has_ended ≡ false }
     ensures { lines.new.has_ended ≡ false }
 {
-    let Next::Got(Line::Opt(message)) = lines.next(source) else {
+    let Next::Got(Line::Opt) = lines.next(source) else {
         panic!(rt; "no line");
     };
-    assert_eq!(rt; message.len(), 53);
+    assert_eq!(rt; lines.message().len(), 53);
 }
 
 fn four_long_lines_come(rt: &impl Abort, lines: &mut Lines, source: &mut SliceSource)

@@ -2,8 +2,9 @@
 ghost use Rattle.std.specs.Prelude.{◌≡◌, ◌≤◌, ◌↔◌, true, length, take, IsTrue, IfErr, IfOk, MatchOption, MatchResult};
 ghost use Rattle.journal_model.specs.Faults.{has_no_end, is_open};
 ghost use Rattle.event_script.specs.Next.{AreTooMany, Decides, IsOfLine, IsRefusedFor, SaysAt};
-ghost use Rattle.event_script.specs.Views.{IsInRange, line_view};
+ghost use Rattle.event_script.specs.Views.{HasMessage, IsInRange, line_view};
 
+use crate::message::Message;
 use crate::words::place_of;
 use crate::{Line, LineFault, read_line};
 
@@ -14,9 +15,9 @@ pub(crate) const MAX_LINES: u32 = 1_000_000;
 pub(crate) const MAX_LINE_LEN: usize = 120;
 
 /// What comes next in a script.
-#[derive(Clone, Debug, PartialEq, Eq, Drop)]
+#[derive(Clone, Copy, Debug, PartialEq, Eq)]
 pub enum Next {
-    /// The next line says this.
+    /// The next line says this. [`Lines::message`](crate::Lines::message) has the bytes of an `opt` or `mbus` line.
     Got(Line),
     /// The next line is refused, whatever the record in force: it is outside the grammar, too long or one too many.
     Bad(LineFault),
@@ -26,10 +27,12 @@ pub enum Next {
     ReadFault,
 }
 
-// What a line says, where `given` lines stand before it, or why it is refused whatever the record in force.
-pub(crate) fn judge(line: &[u8], given: u32) -> Result<Line, LineFault>
-    ensures says { MatchResult result (λ said. SaysAt given line.now (line_view said)) (λ kind. IsRefusedFor given line.now kind) }
+// What a line says, where `given` lines stand before it, or why it is refused whatever the record in force. The bytes of
+// an `opt` or `mbus` line go into `message`.
+pub(crate) fn judge(line: &[u8], given: u32, message: &mut Message) -> Result<Line, LineFault>
+    ensures says { MatchResult result (λ said. SaysAt given line.now (line_view said message.new.items)) (λ kind. IsRefusedFor given line.now kind) }
     ensures range { IfOk result IsInRange }
+    ensures some { IfOk result (λ said. HasMessage said message.new.items) }
     ensures kind { IfErr result IsOfLine }
 {
     if given >= MAX_LINES {
@@ -38,7 +41,7 @@ pub(crate) fn judge(line: &[u8], given: u32) -> Result<Line, LineFault>
     if line.len() > MAX_LINE_LEN {
         return Err(LineFault::TooLong);
     }
-    match read_line(line) {
+    match read_line(line, message) {
         Ok(said) => Ok(said),
         Err(fault) => Err(LineFault::Grammar { at: fault.at }),
     }

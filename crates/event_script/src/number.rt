@@ -1,5 +1,5 @@
 //! Number words.
-ghost use Rattle.std.specs.Prelude.{◌≡◌, ◌+◌, ◌*◌, ◌<◌, ◌≤◌, IfSome, MatchOption};
+ghost use Rattle.std.specs.Prelude.{◌≡◌, ◌+◌, ◌*◌, ◌^◌, ◌≤◌, IfSome, MatchOption};
 ghost use Rattle.script_model.specs.Numbers.{number_in};
 
 /// The number that a word says, where it is one from `low` to `high`: decimal digits alone, with no leading
@@ -16,23 +16,21 @@ pub fn number_word(word: &[u8], low: u64, high: u64) -> Option<u64>
         if !c.is_ascii_digit() {
             return None;
         }
-        let Some(next) = with_digit(value, *c - b'0', high) else {
+        let Some(next) = with_digit(value, *c - b'0') else {
             return None;
         };
         value = next;
     }
-    if value < low { None } else { Some(value) }
+    if low <= value && value <= high {
+        Some(value)
+    } else {
+        None
+    }
 }
 
-// The number with one more digit, where it is at most `high`.
-fn with_digit(value: u64, digit: u8, high: u64) -> Option<u64>
-    ensures { MatchOption result (high < 10 * value + digit) (λ next. (next ≡ 10 * value + digit) × (next ≤ high)) }
+// The number with one more digit, where it is below 2^64.
+fn with_digit(value: u64, digit: u8) -> Option<u64>
+    ensures { MatchOption result (2 ^ 64 ≤ 10 * value + digit) (λ next. next ≡ 10 * value + digit) }
 {
-    match value.checked_mul(10) {
-        None => None,
-        Some(tens) => match tens.checked_add(u64::from(digit)) {
-            Some(next) if next <= high => Some(next),
-            _ => None,
-        },
-    }
+    value.checked_mul(10)?.checked_add(u64::from(digit))
 }

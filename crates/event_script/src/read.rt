@@ -1,10 +1,12 @@
 //! What a line says.
-ghost use Rattle.std.specs.Prelude.{◌≡◌, ◌≤◌, length, Ok, Err, IfOk, MatchResult};
+ghost use Rattle.std.specs.Prelude.{◌≡◌, ◌≤◌, List, ℕ, length, Ok, Err, IfOk, IfSome, MatchResult};
 ghost use Rattle.std.specs.Option.{ForSome, option_map};
+ghost use Rattle.metering_model.specs.Events as events;
+ghost use Rattle.script_model.specs.Grammar as grammar;
 ghost use Rattle.script_model.specs.Grammar.{line_of, sample_line, pulse_line, date_line, power_line, cut_line, opt_line, mbus_line, word_at, end_at};
 ghost use Rattle.script_model.specs.Numbers.{number_in};
 ghost use Rattle.script_model.specs.Hex.{byte_in, hex_in};
-ghost use Rattle.event_script.specs.Views.{IsInRange, Reads, line_view, rest_words};
+ghost use Rattle.event_script.specs.Views.{HasMessage, IsInRange, Reads, line_view, rest_words};
 
 use crate::date::date_word;
 use crate::message::{Message, byte_word, message_word};
@@ -24,14 +26,40 @@ const MAX_CALLS: u64 = 65_535;
 /// The bytes of the memory.
 const MEMORY_SIZE: u64 = 16_384;
 
-/// Reads a line of a script, without its LF. It has at most 120 bytes.
+/// Reads a line of a script, without its LF. It has at most 120 bytes. The bytes of an `opt` or `mbus` line go into
+/// `message`.
 ///
 /// # Errors
 /// [`Grammar`] exactly outside the grammar of lines, with the place of the first wrong, missing or extra word.
-pub fn read_line(line: &[u8]) -> Result<Line, Grammar>
+pub fn read_line(line: &[u8], message: &mut Message) -> Result<Line, Grammar>
     requires { length line.now ≤ 120 }
-    ensures said { Reads result (line_of line.now) }
+    ensures said { Reads result message.new.items (line_of line.now) }
     ensures range { IfOk result IsInRange }
+    ensures some { IfOk result (λ said. HasMessage said message.new.items) }
+{
+    match pulses_of(line) {
+        Some(n) => Ok(Line::Metering(Event::Pulse { n })),
+        None => read_words(line, message),
+    }
+}
+
+// The pulses of a line `pulse N`, as most lines are. There is none where the line has a fault.
+fn pulses_of(line: &[u8]) -> Option<u64>
+    ensures said { IfSome result (λ n. line_of line.now ≡ Ok (grammar.Metering (events.Pulse n))) }
+    ensures range { IfSome result (λ n. (1 ≤ n) × (n ≤ 1000000000000000)) }
+{
+    match line.strip_prefix(b"pulse ".as_slice()) {
+        Some(word) => number_word(word, 1, MAX_PULSES),
+        None => None,
+    }
+}
+
+// Reads a line word by word.
+fn read_words(line: &[u8], message: &mut Message) -> Result<Line, Grammar>
+    requires { length line.now ≤ 120 }
+    ensures said { Reads result message.new.items (line_of line.now) }
+    ensures range { IfOk result IsInRange }
+    ensures some { IfOk result (λ said. HasMessage said message.new.items) }
 {
     let (name, words) = split_word(line);
     if name == b"sample".as_slice() {
@@ -45,9 +73,9 @@ pub fn read_line(line: &[u8]) -> Result<Line, Grammar>
     } else if name == b"cut".as_slice() {
         read_cut(words)
     } else if name == b"opt".as_slice() {
-        read_opt(words)
+        read_opt(words, message)
     } else if name == b"mbus".as_slice() {
-        read_mbus(words)
+        read_mbus(words, message)
     } else {
         Err(Grammar { at: 0 })
     }
@@ -56,7 +84,8 @@ pub fn read_line(line: &[u8]) -> Result<Line, Grammar>
 // `sample RF RR`, from the word after the name on.
 fn read_sample(words: Option<&[u8]>) -> Result<Line, Grammar>
     ensures range { IfOk result IsInRange }
-    ensures said { Reads result (sample_line (rest_words (option_map (λ r. r.now) words.entry))) }
+    ensures said { (bytes : List ℕ) → Reads result bytes (sample_line (rest_words (option_map (λ r. r.now) words.entry))) }
+    ensures some { (bytes : List ℕ) → IfOk result (λ said. HasMessage said bytes) }
 {
     let (rf, words) = number_at(words, 1, 0, MAX_SAMPLE)?;
     let (rr, words) = number_at(words, 2, 0, MAX_SAMPLE)?;
@@ -67,7 +96,8 @@ fn read_sample(words: Option<&[u8]>) -> Result<Line, Grammar>
 // `pulse N`, from the word after the name on.
 fn read_pulse(words: Option<&[u8]>) -> Result<Line, Grammar>
     ensures range { IfOk result IsInRange }
-    ensures said { Reads result (pulse_line (rest_words (option_map (λ r. r.now) words.entry))) }
+    ensures said { (bytes : List ℕ) → Reads result bytes (pulse_line (rest_words (option_map (λ r. r.now) words.entry))) }
+    ensures some { (bytes : List ℕ) → IfOk result (λ said. HasMessage said bytes) }
 {
     let (n, words) = number_at(words, 1, 1, MAX_PULSES)?;
     whole_line(words, 2, Line::Metering(Event::Pulse { n }))
@@ -76,7 +106,8 @@ fn read_pulse(words: Option<&[u8]>) -> Result<Line, Grammar>
 // `date YYYY-MM-DD`, from the word after the name on.
 fn read_date(words: Option<&[u8]>) -> Result<Line, Grammar>
     ensures range { IfOk result IsInRange }
-    ensures said { Reads result (date_line (rest_words (option_map (λ r. r.now) words.entry))) }
+    ensures said { (bytes : List ℕ) → Reads result bytes (date_line (rest_words (option_map (λ r. r.now) words.entry))) }
+    ensures some { (bytes : List ℕ) → IfOk result (λ said. HasMessage said bytes) }
 {
     let Some(rest) = words else {
         return Err(Grammar { at: 1 });
@@ -91,7 +122,8 @@ fn read_date(words: Option<&[u8]>) -> Result<Line, Grammar>
 // `power`, from the word after the name on.
 fn read_power(words: Option<&[u8]>) -> Result<Line, Grammar>
     ensures range { IfOk result IsInRange }
-    ensures said { Reads result (power_line (rest_words (option_map (λ r. r.now) words.entry))) }
+    ensures said { (bytes : List ℕ) → Reads result bytes (power_line (rest_words (option_map (λ r. r.now) words.entry))) }
+    ensures some { (bytes : List ℕ) → IfOk result (λ said. HasMessage said bytes) }
 {
     whole_line(words, 1, Line::Power)
 }
@@ -99,7 +131,8 @@ fn read_power(words: Option<&[u8]>) -> Result<Line, Grammar>
 // `cut N KEEP FILL`, from the word after the name on.
 fn read_cut(words: Option<&[u8]>) -> Result<Line, Grammar>
     ensures range { IfOk result IsInRange }
-    ensures said { Reads result (cut_line (rest_words (option_map (λ r. r.now) words.entry))) }
+    ensures said { (bytes : List ℕ) → Reads result bytes (cut_line (rest_words (option_map (λ r. r.now) words.entry))) }
+    ensures some { (bytes : List ℕ) → IfOk result (λ said. HasMessage said bytes) }
 {
     let (n, words) = number_at(words, 1, 1, MAX_CALLS)?;
     let (keep, words) = number_at(words, 2, 0, MEMORY_SIZE)?;
@@ -109,23 +142,25 @@ fn read_cut(words: Option<&[u8]>) -> Result<Line, Grammar>
 }
 
 // `opt HEX`, from the word after the name on.
-fn read_opt(words: Option<&[u8]>) -> Result<Line, Grammar>
+fn read_opt(words: Option<&[u8]>, message: &mut Message) -> Result<Line, Grammar>
     requires { ForSome words (λ rest. length rest.now ≤ 116) }
+    ensures said { Reads result message.new.items (opt_line (rest_words (option_map (λ r. r.now) words.entry))) }
     ensures range { IfOk result IsInRange }
-    ensures said { Reads result (opt_line (rest_words (option_map (λ r. r.now) words.entry))) }
+    ensures some { IfOk result (λ said. HasMessage said message.new.items) }
 {
-    let (message, words) = first_message(words)?;
-    whole_line(words, 2, Line::Opt(message))
+    let words = first_message(words, message)?;
+    whole_line(words, 2, Line::Opt)
 }
 
 // `mbus HEX`, from the word after the name on.
-fn read_mbus(words: Option<&[u8]>) -> Result<Line, Grammar>
+fn read_mbus(words: Option<&[u8]>, message: &mut Message) -> Result<Line, Grammar>
     requires { ForSome words (λ rest. length rest.now ≤ 116) }
+    ensures said { Reads result message.new.items (mbus_line (rest_words (option_map (λ r. r.now) words.entry))) }
     ensures range { IfOk result IsInRange }
-    ensures said { Reads result (mbus_line (rest_words (option_map (λ r. r.now) words.entry))) }
+    ensures some { IfOk result (λ said. HasMessage said message.new.items) }
 {
-    let (message, words) = first_message(words)?;
-    whole_line(words, 2, Line::Mbus(message))
+    let words = first_message(words, message)?;
+    whole_line(words, 2, Line::Mbus)
 }
 
 // The number from `low` to `high` that the word at a place says, and what follows that word.
@@ -168,21 +203,27 @@ fn byte_at(words: Option<&[u8]>, at: u8) -> Result<(u8, Option<&[u8]>), Grammar>
     }
 }
 
-// The message that the word after the name says, and what follows that word.
-fn first_message(words: Option<&[u8]>) -> Result<(Message, Option<&[u8]>), Grammar>
+// Takes the message that the word after the name says. Answers what follows that word.
+fn first_message<'a>(
+    words: Option<&'a [u8]>,
+    message: &mut Message,
+) -> Result<Option<&'a [u8]>, Grammar>
     requires { ForSome words (λ rest. length rest.now ≤ 116) }
     ensures said { MatchResult result
-        (λ m. word_at 1 hex_in (rest_words (option_map (λ r. r.now) words.entry))
-        ≡ Ok (m.0.items, rest_words (option_map (λ r. r.now) m.1)))
+        (λ rest. word_at 1 hex_in (rest_words (option_map (λ r. r.now) words.entry))
+        ≡ Ok (message.new.items, rest_words (option_map (λ r. r.now) rest)))
         (λ e. word_at 1 hex_in (rest_words (option_map (λ r. r.now) words.entry)) ≡ Err e.at) }
-    ensures some { IfOk result (λ m. 1 ≤ length m.0.items) }
+    ensures some { IfOk result (λ _. 1 ≤ length message.new.items) }
 {
     let Some(rest) = words else {
         return Err(Grammar { at: 1 });
     };
     let (word, words) = split_word(rest);
     match message_word(word) {
-        Some(message) => Ok((message, words)),
+        Some(said) => {
+            *message = said;
+            Ok(words)
+        }
         None => Err(Grammar { at: 1 }),
     }
 }
@@ -190,7 +231,7 @@ fn first_message(words: Option<&[u8]>) -> Result<(Message, Option<&[u8]>), Gramm
 // The line, where no word stands at a place behind it.
 #[tactic(auto, using(crate::proofs::Cuts::no_end))]
 fn whole_line(words: Option<&[u8]>, at: u8, line: Line) -> Result<Line, Grammar>
-    ensures said { Reads result (end_at at (line_view line) (rest_words (option_map (λ r. r.now) words.entry))) }
+    ensures said { (bytes : List ℕ) → Reads result bytes (end_at at (line_view line bytes) (rest_words (option_map (λ r. r.now) words.entry))) }
     ensures same { IfOk result (λ whole. whole ≡ line) }
 {
     match words {
@@ -203,46 +244,50 @@ fn whole_line(words: Option<&[u8]>, at: u8, line: Line) -> Result<Line, Grammar>
 mod tests {
     use super::*;
 
+    // What a line says that is no message.
+    fn read(line: &[u8]) -> Result<Line, Grammar>
+        requires { length line.now ≤ 120 }
+    {
+        read_line(line, &mut Message::new())
+    }
+
     #[test]
     fn samples_are_read(rt: HostRuntime) {
         assert_eq!(rt;
-            read_line(b"sample 616209500 596985625"),
+            read(b"sample 616209500 596985625"),
             Ok(Line::Metering(Event::Sample {
                 rf: 616_209_500,
                 rr: 596_985_625
             }))
         );
-        assert_eq!(rt; read_line(b"sample 1"), Err(Grammar { at: 2 }));
-        assert_eq!(rt; read_line(b"sample 4294967296 1"), Err(Grammar { at: 1 }));
+        assert_eq!(rt; read(b"sample 1"), Err(Grammar { at: 2 }));
+        assert_eq!(rt; read(b"sample 4294967296 1"), Err(Grammar { at: 1 }));
     }
 
     #[test]
     fn pulses_are_read(rt: HostRuntime) {
-        assert_eq!(rt;
-            read_line(b"pulse 7"),
-            Ok(Line::Metering(Event::Pulse { n: 7 }))
-        );
-        assert_eq!(rt; read_line(b"pulse 07"), Err(Grammar { at: 1 }));
-        assert_eq!(rt; read_line(b"pulses 7"), Err(Grammar { at: 0 }));
+        assert_eq!(rt; read(b"pulse 7"), Ok(Line::Metering(Event::Pulse { n: 7 })));
+        assert_eq!(rt; read(b"pulse 07"), Err(Grammar { at: 1 }));
+        assert_eq!(rt; read(b"pulses 7"), Err(Grammar { at: 0 }));
     }
 
     #[test]
     fn dates_are_read(rt: HostRuntime) {
-        let Ok(Line::Metering(Event::Date { day })) = read_line(b"date 2024-02-29") else {
+        let Ok(Line::Metering(Event::Date { day })) = read(b"date 2024-02-29") else {
             panic!(rt; "no date");
         };
         assert_eq!(rt; day.number, 8825);
-        assert_eq!(rt; read_line(b"date 2023-02-29"), Err(Grammar { at: 1 }));
-        assert_eq!(rt; read_line(b"date 2024-2-29"), Err(Grammar { at: 1 }));
-        assert_eq!(rt; read_line(b"date 2024-01-15 x"), Err(Grammar { at: 2 }));
+        assert_eq!(rt; read(b"date 2023-02-29"), Err(Grammar { at: 1 }));
+        assert_eq!(rt; read(b"date 2024-2-29"), Err(Grammar { at: 1 }));
+        assert_eq!(rt; read(b"date 2024-01-15 x"), Err(Grammar { at: 2 }));
     }
 
     #[test]
     fn failures_of_the_power_are_read(rt: HostRuntime) {
-        assert_eq!(rt; read_line(b"power"), Ok(Line::Power));
-        assert_eq!(rt; read_line(b"power 1"), Err(Grammar { at: 1 }));
-        assert_eq!(rt; read_line(b"power "), Err(Grammar { at: 1 }));
-        assert_eq!(rt; read_line(b"powers"), Err(Grammar { at: 0 }));
+        assert_eq!(rt; read(b"power"), Ok(Line::Power));
+        assert_eq!(rt; read(b"power 1"), Err(Grammar { at: 1 }));
+        assert_eq!(rt; read(b"power "), Err(Grammar { at: 1 }));
+        assert_eq!(rt; read(b"powers"), Err(Grammar { at: 0 }));
     }
 
     #[test]
@@ -252,7 +297,7 @@ mod tests {
             (b"cut 3 0 a5".as_slice(), 3, 0, 0xA5),
             (b"cut 65535 16384 fF".as_slice(), 65_535, 16_384, 0xFF),
         ] {
-            assert_eq!(rt; read_line(line), Ok(Line::Cut { n, keep, fill }));
+            assert_eq!(rt; read(line), Ok(Line::Cut { n, keep, fill }));
         }
     }
 
@@ -273,35 +318,38 @@ mod tests {
             (b"cut 1 0 0g".as_slice(), 3),
             (b"cut 1 0 00 1".as_slice(), 4),
         ] {
-            assert_eq!(rt; read_line(line), Err(Grammar { at }));
+            assert_eq!(rt; read(line), Err(Grammar { at }));
         }
     }
 
     #[test]
     fn messages_are_read(rt: HostRuntime) {
+        let mut message = Message::new();
         for line in [b"opt 2F3F210D0A".as_slice(), b"opt 2f3f210d0a".as_slice()] {
-            let Ok(Line::Opt(message)) = read_line(line) else {
-                panic!(rt; "no message");
-            };
+            assert_eq!(rt; read_line(line, &mut message), Ok(Line::Opt));
             assert_eq!(rt;
                 message.as_slice(),
                 [0x2F, 0x3F, 0x21, 0x0D, 0x0A].as_slice()
             );
         }
-        let Ok(Line::Mbus(bytes)) = read_line(b"mbus 1040014116") else {
-            panic!(rt; "no bytes");
-        };
-        assert_eq!(rt; bytes.as_slice(), [0x10, 0x40, 0x01, 0x41, 0x16].as_slice());
+        assert_eq!(rt; read_line(b"mbus 1040014116", &mut message), Ok(Line::Mbus));
+        assert_eq!(rt;
+            message.as_slice(),
+            [0x10, 0x40, 0x01, 0x41, 0x16].as_slice()
+        );
     }
 
     #[test]
     fn the_longest_message_is_read(rt: HostRuntime) {
+        let mut message = Message::new();
         assert_eq!(rt;
             read_line(
-                b"opt A5A5A5A5A5A5A5A5A5A5A5A5A5A5A5A5A5A5A5A5A5A5A5A5A5A5A5A5A5A5A5A5A5A5A5A5A5A5A5A5A5A5A5A5A5A5A5A5A5A5A5A5A5A5A5A5A5A5"
+                b"opt A5A5A5A5A5A5A5A5A5A5A5A5A5A5A5A5A5A5A5A5A5A5A5A5A5A5A5A5A5A5A5A5A5A5A5A5A5A5A5A5A5A5A5A5A5A5A5A5A5A5A5A5A5A5A5A5A5A5",
+                &mut message
             ),
-            Ok(Line::Opt(Message::from([0xA5; 58])))
+            Ok(Line::Opt)
         );
+        assert_eq!(rt; message, Message::from([0xA5; 58]));
     }
 
     #[test]
@@ -314,7 +362,7 @@ mod tests {
             (b"opt 2F 3F".as_slice(), 2),
             (b"mbus 104001411".as_slice(), 1),
         ] {
-            assert_eq!(rt; read_line(line), Err(Grammar { at }));
+            assert_eq!(rt; read(line), Err(Grammar { at }));
         }
     }
 }

@@ -43,10 +43,10 @@ module _ (script rest : List ℕ) (n : ℕ) (j : Journal) (r : MeterRecord) (t :
   dry_failed = failed dry_setup dry_opening script rest n j r t g line after first t [] text later new answered (at_once t g.nothing)
 
 -- what a line says is taken
-pub takes_dry : {T : Type 0} (c : Settings) (n : ℕ) (line : List ℕ) (said : grammar.Line) (r new : MeterRecord) (t : T) → c ≡ dry_settings → SaysAt n line said → TakesDry c r said new (Ok t) → TakesLine Dry dry_settings n r line new
-takes_dry c n line said r new t settings says h = record {
+pub takes_dry : {T : Type 0} (n : ℕ) (line : List ℕ) (said : grammar.Line) (r new : MeterRecord) (t : T) → SaysAt n line said → TakesDry dry_settings r said new (Ok t) → TakesLine Dry dry_settings n r line new
+takes_dry n line said r new t says h = record {
   event = h.0;
   taken = decides says Dry r ∙ ap (λ (s : grammar.Line). said_fault Dry r (Ok s)) h.1 ∙ h.2;
   says = says.says ∙ ap Ok h.1;
-  takes = subst (λ (s : Settings). TakesEvent s r h.0 new) settings h.3;
+  takes = h.3;
 }

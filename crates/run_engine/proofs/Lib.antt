@@ -12,3 +12,4 @@ pub mod FewLost
 pub mod Leads
 pub mod Unanswered
 pub mod Reading
+pub mod Starts

@@ -71,10 +71,6 @@ module _ (s : Setup) (o : records.MeterRecord) (script : List ℕ) where
     done empty = ran_to j t Done g.pairs g.fits
         (let none : drop n (lines_of script) ≡ [] = next_lines ∙ ap lines_of empty in omega (arith, length-drop n (lines_of script), ap length none, g.count, pairs-length _ _ _ _ _ _ _ g.pairs), g.nothing)
 
-    -- nothing went out for the next line
-    pub stopped : Ran s o script t Write
-    stopped = ran_to j t Write g.pairs g.fits (inl g.nothing)
-
     module _ (line after : List ℕ) (first : IsFirst rest line after) where
       -- the next line, as the place of the lines that were answered has it
       next_place : drop (length (output_lines t)) (lines_of script) ≡ line ∷ lines_of after
@@ -146,8 +142,11 @@ module _ (s : Setup) (o : records.MeterRecord) (script : List ℕ) where
           went = went;
         }))
 
+        some_lines : ¬ (output_lines (u ▷ Put text) ≡ [])
+        some_lines none = omega (arith, ap length none, goes_on.count)
+
         in_front : (count : ℕ) → (take count text ≡ text) ⊎ (ends_line (take count text) ≡ false) → Ran s o script (u ▷ Put (take count text)) Write
-        in_front count (inl whole) = subst (λ x. Ran s o script (u ▷ Put x) Write) (sym whole) (ran_to later (u ▷ Put text) Write goes_on.pairs a.fits (inl goes_on.nothing))
+        in_front count (inl whole) = subst (λ x. Ran s o script (u ▷ Put x) Write) (sym whole) (ran_to later (u ▷ Put text) Write goes_on.pairs a.fits (inl (some_lines, goes_on.nothing)))
         in_front count (inr part) = stops_in (u ▷ Put (take count text)) (output_lines-piece u (take count text) part) (inr (count, open_segment-piece u (take count text) part ∙ ap (λ segment. segment ++ Put (take count text) ∷ []) reached.segment))
 
         pub failed : (v : Trace) → PutsFront u text v → Ran s o script v Write

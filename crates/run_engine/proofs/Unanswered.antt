@@ -17,7 +17,7 @@ use Rattle.register_store.specs.Commits as commits
 use Rattle.run_engine.specs.declared.Ended.{Ended}
 use Rattle.run_engine.specs.declared.Ended.TheVariants.{Done, Line, Memory, Read, Write, Unformatted, Foreign}
 use Rattle.run_engine.specs.Going.{Between}
-use Rattle.run_engine.specs.Ran.{EndsAt, IsDoneOrRefused}
+use Rattle.run_engine.specs.Ran.{EndsAt, IsDoneOrRefused, Ran}
 use Rattle.run_engine.specs.Run.{EndsHeld, RanOnMemory, RunLeaves}
 use Rattle.run_engine.specs.Steps.{Unreadable}
 use Rattle.run_engine.proofs.Complete.{completes}
@@ -59,8 +59,15 @@ unreadable_leaves memory reads script t Write is fresh of e = absurd e
 unreadable_leaves memory reads script t Read is fresh of e = absurd e
 
 -- over a memory that held a configuration and a record
-pub complete_from : (memory : Stored) (c : Configuration) (o : MeterRecord) (side : Side) (script : List ℕ) (t : Trace) (ended : Ended) → memory ≡ Holds c o side → RunLeaves memory script t ended
-    → ¬ (ended ≡ Read) → ¬ (ended ≡ Write) → ¬ (ended ≡ Memory) → IsDoneOrRefused ended
-complete_from memory c o side script t ended is leaves no_read no_write no_memory =
-    let ran = (subst (λ m. RunLeaves m script t ended) is leaves).ran in
-    completes ended no_read no_write no_memory (λ byte e. subst (EndsAt (on_memory c) o (lines_of script) (output_lines t) (open_segment t) ran.journal) e ran.ends) (λ at e. subst (EndsAt (on_memory c) o (lines_of script) (output_lines t) (open_segment t) ran.journal) e ran.ends)
+module _ (memory : Stored) (c : Configuration) (o : MeterRecord) (side : Side) (script : List ℕ) (t : Trace) (ended : Ended) (is : memory ≡ Holds c o side) (leaves : RunLeaves memory script t ended) where
+  ran : Ran (on_memory c) o script t ended
+  ran = (subst (λ m. RunLeaves m script t ended) is leaves).ran
+
+  pub never_unformatted : (byte : ℕ) → ¬ (ended ≡ Unformatted byte)
+  never_unformatted byte e = subst (EndsAt (on_memory c) o (lines_of script) (output_lines t) (open_segment t) ran.journal) e ran.ends
+
+  pub never_foreign : (at : ℕ) → ¬ (ended ≡ Foreign at)
+  never_foreign at e = subst (EndsAt (on_memory c) o (lines_of script) (output_lines t) (open_segment t) ran.journal) e ran.ends
+
+  pub complete_from : ¬ (ended ≡ Read) → ¬ (ended ≡ Write) → ¬ (ended ≡ Memory) → IsDoneOrRefused ended
+  complete_from no_read no_write no_memory = completes ended no_read no_write no_memory never_unformatted never_foreign

@@ -1,5 +1,5 @@
 -- How far a script is answered.
-use Rattle.std.specs.Prelude.{◌≡◌, ℕ, List, [], Result, Ok, Err, length}
+use Rattle.std.specs.Prelude.{◌≡◌, ℕ, List, [], Result, MatchResult, length}
 use Rattle.metering_model.specs.Records.{MeterRecord, StandsFor}
 use Rattle.metering_model.specs.Integral.{AllFitClosely}
 use Rattle.script_model.specs.Lines.{after_lines, lines_of}
@@ -20,8 +20,6 @@ use Rattle.register_store.specs.Commits as commits
 use Rattle.register_store.specs.Recovered.{side_view}
 use Rattle.run_engine.specs.declared.Ended.{Ended}
 use Rattle.run_engine.specs.declared.station.Station.{Station}
-use Rattle.run_engine.specs.Dry.{dry_opening, dry_setup}
-use Rattle.run_engine.specs.Ran.{Ran}
 use Rattle.run_engine.specs.Run.{IsSound, RanOnMemory}
 
 -- n lines have their answers, these bytes are left, j is the journal, and r the record in force
@@ -51,10 +49,4 @@ pub record IsReady (c : Configuration) (o : MeterRecord) (script rest : List ℕ
 
 -- the station is ready for the next line, or the run is over
 abbrev pub Leads : Configuration → MeterRecord → (script rest : List ℕ) → ℕ → Station → (reads : List ℕ) → Trace → {T : Type 0} → Result T Ended → Type 0
-Leads c o script rest n station reads t (Ok u) = IsReady c o script rest n station reads t
-Leads c o script rest n station reads t (Err ended) = RanOnMemory c o script t ended
-
--- without a memory the next line may come, or the run is over
-abbrev pub LeadsDry : (script rest : List ℕ) → ℕ → MeterRecord → Trace → {T : Type 0} → Result T Ended → Type 0
-LeadsDry script rest n r t (Ok u) = (j : Journal) × Going dry_setup dry_opening script rest n j r t
-LeadsDry script rest n r t (Err ended) = Ran dry_setup dry_opening script t ended
+Leads c o script rest n station reads t result = MatchResult result (λ _. IsReady c o script rest n station reads t) (λ ended. RanOnMemory c o script t ended)

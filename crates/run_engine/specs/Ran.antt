@@ -1,5 +1,5 @@
 -- What the lines of a script leave, where the source tells its bytes and the board its trace.
-use Rattle.std.specs.Prelude.{◌≡◌, ℕ, ◌+◌, ◌⊎◌, true, List, [], ◌∷◌, ◌++◌, length, take, None, Some, Ok, slice_get}
+use Rattle.std.specs.Prelude.{◌≡◌, ◌≢◌, ℕ, ◌+◌, ◌⊎◌, true, List, [], ◌∷◌, ◌++◌, length, take, None, Some, Ok, slice_get}
 use Rattle.metering_model.specs.Events.{Kept}
 use Rattle.metering_model.specs.Records.{MeterRecord, record_after}
 use Rattle.metering_model.specs.Integral.{AllFitClosely}
@@ -60,7 +60,7 @@ abbrev pub EndsAt : Setup → MeterRecord → List (List ℕ) → List OutputLin
 EndsAt s o lines outputs rest j Done = (length outputs ≡ length lines) × (rest ≡ [])
 EndsAt s o lines outputs rest j (Line n kind) = (n ≡ length outputs + 1) × IsRefused s o lines j.kept (length outputs) (fault_view kind) × (rest ≡ [])
 EndsAt s o lines outputs rest j Memory = ((outputs ≡ []) × (rest ≡ [])) ⊎ StopsInLine s o lines j.kept (length outputs) rest
-EndsAt s o lines outputs rest j Write = (rest ≡ []) ⊎ StopsInAnswer s o lines j (length outputs) rest
+EndsAt s o lines outputs rest j Write = ((outputs ≢ []) × (rest ≡ [])) ⊎ StopsInAnswer s o lines j (length outputs) rest
 EndsAt s o lines outputs rest j Read = rest ≡ []
 EndsAt s o lines outputs rest j (Unformatted byte) = ⊥
 EndsAt s o lines outputs rest j (Foreign at) = ⊥

@@ -1,31 +1,25 @@
--- What the next line of a script says, or how a run ends there.
-use Rattle.std.specs.Prelude.{◌≡◌, ℕ, ◌+◌, List, [], Result, Ok, Err}
-use Rattle.event_script.specs.declared.Line as event_script
-use Rattle.event_script.specs.Next.{RefusesNext, SaysNext}
-use Rattle.event_script.specs.Views.{line_view}
+-- How a run over the lines of a script ends.
+use Rattle.std.specs.Prelude.{◌≡◌, ℕ, ◌+◌, ◌⊎◌, true, List, [], ◌++◌}
+use Rattle.journal_model.specs.Faults.{is_open}
+use Rattle.event_script.specs.Next.{RefusesNext}
 use Rattle.run_engine.specs.declared.Ended.{Ended}
 use Rattle.run_engine.specs.declared.Ended.TheVariants.{Done, Line, Memory, Read, Write, Unformatted, Foreign}
 
--- where these bytes stand behind n lines, and what is left of them then
-abbrev pub NextLine : ℕ → List ℕ → Result event_script.Line Ended → List ℕ → Type 0
-NextLine n bytes (Ok said) left = SaysNext n bytes (line_view said) left
-NextLine n bytes (Err Done) left = (bytes ≡ []) × (left ≡ [])
-NextLine n bytes (Err (Line m kind)) left = (m ≡ n + 1) × RefusesNext n bytes kind
-NextLine n bytes (Err Read) left = left ≡ bytes
-NextLine n bytes (Err Memory) left = ⊥
-NextLine n bytes (Err Write) left = ⊥
-NextLine n bytes (Err (Unformatted byte)) left = ⊥
-NextLine n bytes (Err (Foreign at)) left = ⊥
+-- what of a line was delivered before a read failed, which leaves it open what the line says, and what the source has left
+pub record IsOpen (n : ℕ) (rest left : List ℕ) : Type 0 where
+  pub front : List ℕ
+  pub bytes : rest ≡ front ++ left
+  pub undecided : is_open n front ≡ true
 
--- how reading ends
-abbrev pub EndsReading : Ended → Type 0
-EndsReading Done = Unit {0}
-EndsReading (Line n kind) = Unit {0}
-EndsReading Read = Unit {0}
-EndsReading Memory = ⊥
-EndsReading Write = ⊥
-EndsReading (Unformatted byte) = ⊥
-EndsReading (Foreign at) = ⊥
+-- how the reading of the next line ended, where these bytes stand behind n lines, and what the source has left
+abbrev pub StopsReading : ℕ → (rest left : List ℕ) → Ended → Type 0
+StopsReading n rest left Done = (rest ≡ []) × (left ≡ [])
+StopsReading n rest left (Line m kind) = (m ≡ n + 1) × RefusesNext n rest kind
+StopsReading n rest left Read = IsOpen n rest left
+StopsReading n rest left Memory = ⊥
+StopsReading n rest left Write = ⊥
+StopsReading n rest left (Unformatted byte) = ⊥
+StopsReading n rest left (Foreign at) = ⊥
 
 -- how the answer to a line ends a run; only a board that tells nothing may have another memory after a power failure
 abbrev pub EndsAnswering : Ended → Type 0
@@ -36,3 +30,7 @@ EndsAnswering (Unformatted byte) = Unit {0}
 EndsAnswering (Foreign at) = Unit {0}
 EndsAnswering Done = ⊥
 EndsAnswering Read = ⊥
+
+-- the answer to a line ended the run, or the reading of a line for which all was ready
+abbrev pub IsOver : (ready : (rest : List ℕ) → ℕ → Type 0) → (leaves : Type 0) → (left : List ℕ) → Ended → Type 0
+IsOver ready leaves left ended = (EndsAnswering ended × leaves) ⊎ ((rest : List ℕ) × (n : ℕ) × ready rest n × StopsReading n rest left ended)

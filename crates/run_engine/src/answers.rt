@@ -22,6 +22,7 @@ ghost use Rattle.run_engine.specs.Steps.{CountsCuts, HoldGives, OrderGives};
 use crate::Ended;
 use crate::text::{ok_line, power_line, readout_line};
 use arrayvec::ArrayVec;
+use line_text::LineText;
 use mbus_link::{parse, write};
 use mbus_records::Slave;
 use meter_board::{Board, Failed, Refusal};
@@ -69,8 +70,9 @@ pub(crate) fn acknowledge<B: Board>(meter: &Meter, board: &mut B) -> Result<(), 
     ensures output_faults { B.output_faults board.old ≤ B.output_faults board.new }
     ensures cuts { B.cuts board.old ≤ B.cuts board.new }
 {
-    let text = ok_line(meter.state(), meter.config().per_pulse);
-    show(text.as_str().as_bytes(), board)
+    let mut line = LineText::new();
+    ok_line(&mut line, meter.state(), meter.config().per_pulse);
+    show(line.as_bytes(), board)
 }
 
 /// Tells the meter's record, which was recovered after a power failure.
@@ -86,8 +88,9 @@ pub(crate) fn tell_recovered<B: Board>(meter: &Meter, board: &mut B) -> Result<(
     ensures output_faults { B.output_faults board.old ≤ B.output_faults board.new }
     ensures cuts { B.cuts board.old ≤ B.cuts board.new }
 {
-    let text = power_line(meter.state(), meter.config().per_pulse);
-    show(text.as_str().as_bytes(), board)
+    let mut line = LineText::new();
+    power_line(&mut line, meter.state(), meter.config().per_pulse);
+    show(line.as_bytes(), board)
 }
 
 /// Orders a cut of the power: within the `n`-th store or sync from now on, of which the first `keep` bytes are written

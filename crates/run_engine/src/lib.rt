@@ -1,9 +1,10 @@
 //! The commands that take a script.
 #![tactic(auto)]
 
+mod answering;
 mod answers;
+mod events;
 mod laws;
-mod lines;
 mod on_memory;
 mod station;
 mod text;

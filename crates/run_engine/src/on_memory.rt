@@ -20,12 +20,11 @@ ghost use Rattle.run_engine.specs.Run.{RanOnMemory, RunLeaves};
 ghost use Rattle.run_engine.specs.Steps.{CountsCuts};
 
 use crate::Ended;
-use crate::lines::next_line;
+use crate::answering::answer_lines;
 use crate::station::{Station, unreadable};
-use event_script::Lines;
 use meter_board::{Board, Source};
 use meter_core::Meter;
-use register_store::{Side, recover};
+use register_store::recover;
 
 /// Meters the events of a script over the memory of the board. Each event is taken by the record, then held by the
 /// memory, whatever the power does from then on, and then answered by an output line. A readout is answered from
@@ -50,41 +49,9 @@ pub fn run<S: Source, B: Board>(source: &mut S, board: &mut B) -> Ended
 {
     match recover(board) {
         Ok((config, opening, side)) => {
-            answer_lines(source, Meter::start(config, opening), side, board)
+            let mut station = Station::start(Meter::start(config, opening), side);
+            answer_lines(source, &mut station, board)
         }
         Err(fault) => unreadable(fault),
-    }
-}
-
-/// Answers the lines of a script, up to the first that is refused, by the meter whose record the memory holds.
-fn answer_lines<S: Source, B: Board>(
-    source: &mut S,
-    meter: Meter,
-    side: Side,
-    board: &mut B,
-) -> Ended
-    requires fresh { B.tells → IsFresh (B.trace board.old) }
-    requires holds { B.tells → StandsFor (Holds (config_view meter.config) (record_view meter.record) (side_view side)) (B.reads board.old) }
-    ensures base { B.tells → base_of (B.trace board.new) ≡ base_of (B.trace board.old) }
-    ensures ran { S.tells → B.tells → RanOnMemory (config_view meter.config) (record_view meter.record) (S.left source.old) (B.trace board.new) result }
-    ensures end { S.tells → B.tells → result ≡ Ended.Done → S.left source.new ≡ [] }
-    ensures delivered { S.tells → B.tells → result ≡ Ended.Read → StopsAtRead (S.left source.old) (S.left source.new) (length (output_lines (B.trace board.new))) }
-    ensures counted { B.tells → CountsCuts (B.trace board.old) (B.trace board.new) (B.cuts board.old) (B.cuts board.new) }
-    ensures memory { result ≡ Ended.Memory → Rose (B.memory_faults board.old) (B.memory_faults board.new) }
-    ensures read { result ≡ Ended.Read → Rose (S.faults source.old) (S.faults source.new) }
-    ensures write { result ≡ Ended.Write → Rose (B.output_faults board.old) (B.output_faults board.new) }
-{
-    let mut station = Station::start(meter, side);
-    let mut lines = Lines::new();
-    loop {
-        let taken = lines.given();
-        let said = match next_line(&mut lines, source) {
-            Ok(said) => said,
-            Err(ended) => return ended,
-        };
-        match station.answer(&said, taken, board) {
-            Ok(()) => {}
-            Err(ended) => return ended,
-        }
     }
 }

@@ -1,4 +1,6 @@
 //! A meter over a memory, with its readouts.
+ghost use Rattle.std.proofs.Common.{refl, ◌∙◌};
+ghost use Rattle.billing_memory.specs.Records.{record_view};
 ghost use Rattle.std.specs.Prelude.{◌≡◌, ◌≢◌, ◌+◌, ◌≤◌, ◌<◌, ℕ, List, [], None, Err, IfErr, IsErrOf, OnOk};
 ghost use Rattle.trace_model.specs.Trace.{base_of};
 ghost use Rattle.trace_model.specs.Images.{NothingPending};
@@ -16,8 +18,9 @@ ghost use Rattle.register_store.specs.Recovered.{RecoverGives, side_view};
 ghost use Rattle.run_engine.specs.Steps.{IsUnreadable, Unreadable};
 
 use crate::Ended;
+use crate::answering::Answerer;
 use crate::answers::{acknowledge, answer_bytes, answer_message, hold, order_cut, tell_recovered};
-use crate::lines::take_event;
+use crate::events::take_event;
 use event_script::{Event, Line};
 use mbus_records::Slave;
 use meter_board::{Board, Failed, Refusal};
@@ -52,44 +55,6 @@ impl Station {
             side,
             optical: Optical::new(),
             slave: Slave::new(),
-        }
-    }
-
-    /// Answers the line after `taken` lines, which says this.
-    pub(crate) fn answer<B: Board>(
-        &mut self,
-        said: &Line,
-        taken: u32,
-        board: &mut B,
-    ) -> Result<(), Ended>
-        requires range { IsInRange said.now }
-        requires few { taken < 1000000 }
-        requires settled { B.tells → NothingPending (B.trace board.old) }
-        requires stands { B.tells → StandsOn (side_view self.old.side) (B.reads board.old) }
-        ensures leads { B.tells → (c : Configuration) (o : metering.MeterRecord) (script rest line after : List ℕ)
-            → IsReady c o script rest taken self.old (B.reads board.old) (B.trace board.old) → IsFirst rest line after → SaysAt taken line (line_view said.now)
-            → Leads c o script after (taken + 1) self.new (B.reads board.new) (B.trace board.new) result }
-        ensures settled { B.tells → OnOk result (NothingPending (B.trace board.new)) }
-        ensures stands { B.tells → OnOk result (StandsOn (side_view self.new.side) (B.reads board.new)) }
-        ensures base { B.tells → base_of (B.trace board.new) ≡ base_of (B.trace board.old) }
-        ensures counted { B.tells → CountsCuts (B.trace board.old) (B.trace board.new) (B.cuts board.old) (B.cuts board.new) }
-        ensures memory { IsErrOf result Ended.Memory → Rose (B.memory_faults board.old) (B.memory_faults board.new) }
-        ensures write { IsErrOf result Ended.Write → Rose (B.output_faults board.old) (B.output_faults board.new) }
-        ensures kind { IfErr result EndsAnswering }
-        ensures memory_faults { B.memory_faults board.old ≤ B.memory_faults board.new }
-        ensures output_faults { B.output_faults board.old ≤ B.output_faults board.new }
-        ensures cuts { B.cuts board.old ≤ B.cuts board.new }
-    {
-        match said {
-            Line::Metering(event) => self.answer_event(event, taken, board),
-            Line::Power => self.answer_power(board),
-            Line::Cut { n, keep, fill } => order_cut(*n, *keep, *fill, board),
-            Line::Opt(message) => {
-                answer_message(message.as_slice(), &self.meter, &mut self.optical, board)
-            }
-            Line::Mbus(bytes) => {
-                answer_bytes(bytes.as_slice(), &self.meter, &mut self.slave, board)
-            }
         }
     }
 
@@ -179,6 +144,46 @@ impl Station {
             Err(fault) => Err(unreadable(fault)),
         }
     }
+}
+
+impl<B: Board> Answerer<B> for Station {
+    ghost use Rattle.run_engine.specs.Going.{IsReady};
+    ghost use Rattle.run_engine.specs.Steps.{CountsCuts};
+    ghost use Rattle.run_engine.specs.Run.{RanOnMemory};
+
+    ghost Opening = { Configuration × metering.MeterRecord };
+
+    ghost IsSettled = { λ station board. B.tells → NothingPending (B.trace board) × StandsOn (side_view station.side) (B.reads board) };
+
+    ghost IsReady = { λ station board opening script rest n. IsReady opening.0 opening.1 script rest n station (B.reads board) (B.trace board) };
+
+    ghost Leaves = { λ board opening script ended. RanOnMemory opening.0 opening.1 script (B.trace board) ended };
+
+    ghost MayEnd = { λ _. Unit {0} };
+
+    ghost GoesOn = { λ old new. (B.tells → base_of (B.trace new) ≡ base_of (B.trace old)) × (B.tells → CountsCuts (B.trace old) (B.trace new) (B.cuts old) (B.cuts new)) };
+
+    fn answer(
+        &mut self,
+        said: &Line,
+        message: &[u8],
+        taken: u32,
+        board: &mut B,
+    ) -> Result<(), Ended> {
+        match said {
+            Line::Metering(event) => self.answer_event(event, taken, board),
+            Line::Power => self.answer_power(board),
+            Line::Cut { n, keep, fill } => order_cut(*n, *keep, *fill, board),
+            Line::Opt => answer_message(message, &self.meter, &mut self.optical, board),
+            Line::Mbus => answer_bytes(message, &self.meter, &mut self.slave, board),
+        }
+    }
+
+    ghost may_end_reading = { (tt, (λ _ _. tt), tt) };
+
+    ghost stays = { λ _. ((λ _. refl), (λ _ _ enough. enough)) };
+
+    ghost goes_further = { λ _ _ _ first second. ((λ tells. second.0 tells ∙ first.0 tells), (λ tells from enough. second.1 tells from (first.1 tells from enough))) };
 }
 
 /// How a run ends whose memory can't be recovered.

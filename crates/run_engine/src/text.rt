@@ -5,57 +5,45 @@ ghost use Rattle.hex.specs.Hex.{encode_lower};
 ghost use Rattle.metering_model.specs.Settings.{Settings};
 ghost use Rattle.journal_model.specs.Texts.{ok_text, power_text, readout_text, reply_shown, shown};
 ghost use Rattle.billing_memory.specs.Records.{record_view};
+ghost use Rattle.line_text.specs.Text.{text_of};
 
-use arrayvec::{ArrayString, ArrayVec};
+use arrayvec::ArrayVec;
 use billing_memory::MeterRecord;
 use itoa::Buffer;
+use line_text::LineText;
 use optical_readout::REPLY_ROOM;
 
-/// The room of an output line that shows a record.
-pub const LINE_ROOM: usize = 160;
-
-/// The line `ok K VOL E B` for a record, where a pulse stands for `per_pulse` litres.
-pub fn ok_line(meter_record: &MeterRecord, per_pulse: u16) -> ArrayString<LINE_ROOM>
-    ensures { (c : Settings) → c.litres_per_pulse ≡ per_pulse → result.bytes ≡ ok_text c (record_view meter_record.now) }
+/// Makes the line `ok K VOL E B` for a record, where a pulse stands for `per_pulse` litres.
+pub fn ok_line(line: &mut LineText, meter_record: &MeterRecord, per_pulse: u16)
+    ensures { (c : Settings) → c.litres_per_pulse ≡ per_pulse → text_of line.new ≡ ok_text c (record_view meter_record.now) }
 {
-    record_line("ok ", meter_record, per_pulse)
+    record_line(line, b"ok ", meter_record, per_pulse);
 }
 
-/// The line `power K VOL E B` for a record that was recovered, where a pulse stands for `per_pulse` litres.
-pub fn power_line(meter_record: &MeterRecord, per_pulse: u16) -> ArrayString<LINE_ROOM>
-    ensures { (c : Settings) → c.litres_per_pulse ≡ per_pulse → result.bytes ≡ power_text c (record_view meter_record.now) }
+/// Makes the line `power K VOL E B` for a record that was recovered, where a pulse stands for `per_pulse` litres.
+pub fn power_line(line: &mut LineText, meter_record: &MeterRecord, per_pulse: u16)
+    ensures { (c : Settings) → c.litres_per_pulse ≡ per_pulse → text_of line.new ≡ power_text c (record_view meter_record.now) }
 {
-    record_line("power ", meter_record, per_pulse)
+    record_line(line, b"power ", meter_record, per_pulse);
 }
 
-// The line of a record behind a name, which ends with its space.
+// Makes the line of a record behind a name, which ends with its space: from its end to its begin.
 #[tactic(auto, using(std::proofs::lemmas::List::append_assoc))]
-fn record_line(name: &str, meter_record: &MeterRecord, per_pulse: u16) -> ArrayString<LINE_ROOM>
+fn record_line(line: &mut LineText, name: &[u8], meter_record: &MeterRecord, per_pulse: u16)
     requires { length name.now ≤ 10 }
-    ensures { (c : Settings) → c.litres_per_pulse ≡ per_pulse → result.bytes ≡ name.now ++ shown c (record_view meter_record.now) ++ codes "\n" }
-{
-    let mut line = ArrayString::new();
-    line.push_str(name);
-    push_shown(&mut line, meter_record, per_pulse);
-    line.push_str("\n");
-    line
-}
-
-// Adds `K VOL E B`.
-fn push_shown(line: &mut ArrayString<LINE_ROOM>, meter_record: &MeterRecord, per_pulse: u16)
-    requires { length line.old.bytes ≤ 10 }
-    ensures bytes { (c : Settings) → c.litres_per_pulse ≡ per_pulse → line.new.bytes ≡ line.old.bytes ++ shown c (record_view meter_record.now) }
-    ensures short { length line.new.bytes ≤ length line.old.bytes + 143 }
+    ensures { (c : Settings) → c.litres_per_pulse ≡ per_pulse → text_of line.new ≡ name.now ++ shown c (record_view meter_record.now) ++ codes "\n" }
 {
     let register = &meter_record.register;
-    let mut digits = Buffer::new();
-    line.push_str(digits.format(meter_record.seq));
-    line.push_str(" ");
-    line.push_str(digits.format(register.litres(per_pulse)));
-    line.push_str(" ");
-    line.push_str(digits.format(register.energy_mj));
-    line.push_str(" ");
-    line.push_str(digits.format(register.bound_mj));
+    line.clear();
+    line.put(b"\n");
+    line.put_wide(register.bound_mj);
+    line.put(b" ");
+    line.put_signed(register.energy_mj);
+    line.put(b" ");
+    line.put_wide(register.litres(per_pulse));
+    line.put(b" ");
+    line.put_number(meter_record.seq);
+    line.put(name);
 }
 
 /// The room of an output line that shows a reply: two digits for each byte, the name and the number.

@@ -1,24 +1,25 @@
 //! The command `dry`.
-ghost use Rattle.std.specs.Prelude.{◌≡◌, ◌≤◌, ◌+◌, ℕ, List, [], length, IfErr, IsErrOf};
+ghost use Rattle.std.specs.Prelude.{◌≡◌, ℕ, List, [], length};
+ghost use Rattle.std.proofs.Common.{refl, ◌∙◌};
 ghost use Rattle.trace_model.specs.Trace.{IsFresh, base_of};
 ghost use Rattle.trace_model.specs.Output.{PutsAlone, output_lines};
 ghost use Rattle.pairing_model.specs.Journal.{Journal};
 ghost use Rattle.billing_memory.specs.Records.{record_view};
-ghost use Rattle.event_script.specs.Next.{IsFirst, SaysAt};
 ghost use Rattle.event_script.specs.Views.{IsInRange, line_view};
 ghost use Rattle.meter_config.specs.Views.{settings_of};
 ghost use Rattle.meter_board.specs.Causes.{Rose};
 ghost use Rattle.run_engine.specs.Dry.{EndsWithoutMemory, dry_opening, dry_setup, dry_settings};
-ghost use Rattle.run_engine.specs.Going.{Going, LeadsDry};
+ghost use Rattle.run_engine.specs.Going.{Going};
 ghost use Rattle.run_engine.specs.Ran.{IsDoneOrRefused, Ran, StopsAtRead};
-ghost use Rattle.run_engine.specs.Reads.{EndsAnswering};
 ghost use Rattle.run_engine.specs.Takes.{TakesDry};
 
 use crate::Ended;
-use crate::lines::{next_line, take_event};
+use crate::answering::{Answerer, answer_lines};
+use crate::events::take_event;
 use crate::text::ok_line;
 use billing_memory::MeterRecord;
-use event_script::{Line, LineFault, Lines};
+use event_script::{Line, LineFault};
+use line_text::LineText;
 use meter_board::{Board, Failed, Source};
 use meter_config::Config;
 use meter_core::Meter;
@@ -39,65 +40,78 @@ pub fn dry<S: Source, B: Board>(source: &mut S, board: &mut B) -> Ended
     ensures read { result ≡ Ended.Read → Rose (S.faults source.old) (S.faults source.new) }
     ensures write { result ≡ Ended.Write → Rose (B.output_faults board.old) (B.output_faults board.new) }
 {
-    let mut meter = standard_meter();
-    let mut lines = Lines::new();
-    loop {
-        let taken = lines.given();
-        let said = match next_line(&mut lines, source) {
-            Ok(said) => said,
-            Err(ended) => return ended,
-        };
-        match answer(&said, taken, &mut meter, board) {
-            Ok(()) => {}
-            Err(ended) => return ended,
+    let mut meter = DryMeter::standard();
+    answer_lines(source, &mut meter, board)
+}
+
+/// A meter of the standard configuration, without a memory.
+#[derive(Drop)]
+struct DryMeter {
+    meter: Meter,
+    // The output line that was made last.
+    line: LineText,
+    ghost standard: { settings_of meter.config ≡ dry_settings },
+}
+
+impl DryMeter {
+    /// A meter that has counted nothing.
+    fn standard() -> DryMeter
+        ensures opening { record_view result.meter.record ≡ dry_opening }
+    {
+        let config = Config::standard();
+        DryMeter {
+            meter: Meter::start(config, MeterRecord::opening(config.opening_day)),
+            line: LineText::new(),
+        }
+    }
+
+    /// Takes the event that a line says. A line of another kind is refused.
+    fn take(&mut self, said: &Line) -> Result<(), LineFault>
+        requires { IsInRange said.now }
+        ensures { (message : List ℕ) → TakesDry dry_settings (record_view self.old.meter.record) (line_view said.now message) (record_view self.new.meter.record) result }
+    {
+        match said {
+            Line::Metering(event) => take_event(event, &mut self.meter),
+            Line::Power | Line::Cut { .. } | Line::Opt | Line::Mbus => Err(LineFault::NotDry),
         }
     }
 }
 
-/// A meter of the standard configuration that has counted nothing.
-fn standard_meter() -> Meter
-    ensures settings { settings_of result.config ≡ dry_settings }
-    ensures opening { record_view result.record ≡ dry_opening }
-{
-    let config = Config::standard();
-    Meter::start(config, MeterRecord::opening(config.opening_day))
-}
+impl<B: Board> Answerer<B> for DryMeter {
+    ghost Opening = { Unit {0} };
 
-/// Answers the line after `taken` lines, which says this.
-fn answer<B: Board>(said: &Line, taken: u32, meter: &mut Meter, board: &mut B) -> Result<(), Ended>
-    requires range { IsInRange said.now }
-    requires few { taken ≤ 1000000 }
-    ensures leads { B.tells → (script rest line after : List ℕ) (j : Journal) → settings_of meter.old.config ≡ dry_settings
-        → Going dry_setup dry_opening script rest taken j (record_view meter.old.record) (B.trace board.old) → IsFirst rest line after → SaysAt taken line (line_view said.now)
-        → LeadsDry script after (taken + 1) (record_view meter.new.record) (B.trace board.new) result }
-    ensures config { meter.new.config ≡ meter.old.config }
-    ensures kind { IfErr result EndsAnswering }
-    ensures without_memory { IfErr result EndsWithoutMemory }
-    ensures puts { B.tells → PutsAlone (B.trace board.old) → PutsAlone (B.trace board.new) }
-    ensures base { B.tells → base_of (B.trace board.new) ≡ base_of (B.trace board.old) }
-    ensures memory_untouched { B.memory_calls board.new ≡ B.memory_calls board.old }
-    ensures write { IsErrOf result Ended.Write → Rose (B.output_faults board.old) (B.output_faults board.new) }
-    ensures output_faults { B.output_faults board.old ≤ B.output_faults board.new }
-{
-    match take(said, meter) {
-        Ok(()) => {}
-        Err(kind) => return Err(Ended::Line { n: taken + 1, kind }),
-    }
-    let text = ok_line(meter.state(), meter.config().per_pulse);
-    match board.put(text.as_str().as_bytes()) {
-        Ok(()) => Ok(()),
-        Err(Failed) => Err(Ended::Write),
-    }
-}
+    ghost IsSettled = { λ _ _. Unit {0} };
 
-/// Takes the event that a line says. A line of another kind is refused.
-fn take(said: &Line, meter: &mut Meter) -> Result<(), LineFault>
-    requires { IsInRange said.now }
-    ensures takes { TakesDry (settings_of meter.old.config) (record_view meter.old.record) (line_view said.now) (record_view meter.new.record) result }
-    ensures config { meter.new.config ≡ meter.old.config }
-{
-    match said {
-        Line::Metering(event) => take_event(event, meter),
-        Line::Power | Line::Cut { .. } | Line::Opt(_) | Line::Mbus(_) => Err(LineFault::NotDry),
+    ghost IsReady = { λ dry board _ script rest n. (j : Journal) × Going dry_setup dry_opening script rest n j (record_view dry.meter.record) (B.trace board) };
+
+    ghost Leaves = { λ board _ script ended. Ran dry_setup dry_opening script (B.trace board) ended };
+
+    ghost MayEnd = { EndsWithoutMemory };
+
+    ghost GoesOn = { λ old new. (B.tells → base_of (B.trace new) ≡ base_of (B.trace old)) × (B.tells → PutsAlone (B.trace old) → PutsAlone (B.trace new)) × (B.memory_calls new ≡ B.memory_calls old) };
+
+    fn answer(
+        &mut self,
+        said: &Line,
+        _message: &[u8],
+        taken: u32,
+        board: &mut B,
+    ) -> Result<(), Ended> {
+        match self.take(said) {
+            Ok(()) => {}
+            Err(kind) => return Err(Ended::Line { n: taken + 1, kind }),
+        }
+        let per_pulse = self.meter.config().per_pulse;
+        ok_line(&mut self.line, self.meter.state(), per_pulse);
+        match board.put(self.line.as_bytes()) {
+            Ok(()) => Ok(()),
+            Err(Failed) => Err(Ended::Write),
+        }
     }
+
+    ghost may_end_reading = { (tt, (λ _ _. tt), tt) };
+
+    ghost stays = { λ _. ((λ _. refl), (λ _ puts. puts), refl) };
+
+    ghost goes_further = { λ _ _ _ first second. ((λ tells. second.0 tells ∙ first.0 tells), (λ tells puts. second.1 tells (first.1 tells puts)), second.2 ∙ first.2) };
 }

@@ -1,4 +1,4 @@
-use Rattle.std.proofs.Common.{◌≡◌, ◌≤◌, drop}
+use Rattle.std.proofs.Common.{◌≡◌, drop}
 use Rattle.script_model.specs.Numbers.{value_after, all_digits}
 use Rattle.event_script.proofs.number.number_word.Given as goal
 
@@ -7,5 +7,4 @@ abbrev pub invariant-loop-c : goal.invariant-loop-c
 invariant-loop-c l = record {
   value : value_after l.value (drop l.c-index l.word) ≡ value_after 0 l.word;
   digits : all_digits (drop l.c-index l.word) ≡ all_digits l.word;
-  small : l.value ≤ l.high;
 }

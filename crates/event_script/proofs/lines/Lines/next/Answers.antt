@@ -41,5 +41,5 @@ returns-in-Some-clause-gives g c = λ tells.
     let left = g.S.Source.left c.loop-decided.source in
     let same : now ++ left ≡ held c.args.self.now.buffer ++ g.S.Source.left c.args.source.now = ap (λ xs. xs ++ left) d.1 ∙ append_assoc _ d.0 left ∙ ap (λ xs. held c.args.self.now.buffer ++ xs) (sym d.2) in
     let decided : Decides n now c.in-Some.len = subst (λ (o : Option ℕ). MatchOption o (is_open n now ≡ true) (Decides n now)) c.in-Some.is c.loop-decided.invariant.decided in
-    subst (λ xs. NextGives n xs c.give.result (held c.give.new.self.buffer ++ left)) same
-    (gives_decided n now left (held c.give.new.self.buffer) left c.in-Some.len decided c.give.result refl (subst (λ m. GivesLine m (take c.in-Some.len now) c.give.result (drop (c.in-Some.len + 1) now) (held c.give.new.self.buffer)) c.loop-decided.invariant.given c.give.ensures.gives))
+    subst (λ xs. NextGives n xs c.give.result c.give.new.self.message.items (held c.give.new.self.buffer ++ left)) same
+    (gives_decided n now left (held c.give.new.self.buffer) left c.in-Some.len decided c.give.result c.give.new.self.message.items refl (subst (λ m. GivesLine m (take c.in-Some.len now) c.give.result c.give.new.self.message.items (drop (c.in-Some.len + 1) now) (held c.give.new.self.buffer)) c.loop-decided.invariant.given c.give.ensures.gives))
