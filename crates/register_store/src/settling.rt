@@ -19,11 +19,11 @@ pub(crate) fn store_settled<B: Board>(
 ) -> Result<(), StoreFault>
     requires fits { at + length bytes.now ≤ 16384 }
     requires settled { B.tells → NothingPending (B.trace board.old) }
-    ensures moments { B.tells → Grew (Leaves (SameOutside at (length bytes.now) (B.reads board.old))) (B.trace board.old) (B.trace board.new) }
     ensures ok { B.tells → OnOk result (B.reads board.new ≡ replaced (B.reads board.old) at bytes.now) }
     ensures at_cut { B.tells → IsErrOf result Cut → EndsCut (SameOutside at (length bytes.now) (B.reads board.old)) (B.trace board.new) (B.reads board.new) }
     ensures settled { B.tells → OnOk result (NothingPending (B.trace board.new)) }
     ensures works { B.tells → WorksBy 1 result (B.trace board.old) (B.trace board.new) }
+    ensures moments { B.tells → Grew (Leaves (SameOutside at (length bytes.now) (B.reads board.old))) (B.trace board.old) (B.trace board.new) }
     ensures kind { IfErr result IsMemoryOrCut }
     ensures memory { IsErrOf result Memory → Rose (B.memory_faults board.old) (B.memory_faults board.new) }
     ensures cut { IsErrOf result Cut → Rose (B.cuts board.old) (B.cuts board.new) }
