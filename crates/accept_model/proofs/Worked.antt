@@ -13,27 +13,10 @@ use lib.Utf8.{encode}
 use Rattle.serde_json.specs.Read.{number_of}
 use Rattle.std.specs.Str.{is_utf8, chars}
 use Rattle.serde_json.specs.Data.{Data, null, number, unsigned, negative, string, array, object, no_items, Members, no_members, member, put}
-use Rattle.heat_model.specs.Heat.{Flow, Return}
-use Rattle.config_model.specs.Configuration.{Configuration}
+use Rattle.parts_model.specs.Place.{Flow}
+use Rattle.config_model.specs.Standard.{standard}
 use Rattle.accept_model.specs.Keys.{keys, key_names, name_of}
 use Rattle.accept_model.specs.Accepted.{accepted, of_value, said_by, value_at, TooLong, Text, NotObject, Missing, Wrong, Unknown}
-
-abbrev standard : Configuration
-standard = record {
-  serial = 12345678;
-  maker = 65 ∷ 66 ∷ 67 ∷ [];
-  version = 1;
-  address = 1;
-  place = Return;
-  pressure_kpa = 1600;
-  sensor_ohm = 500;
-  litres_per_pulse = 10;
-  energy_decimals = 0;
-  volume_decimals = 2;
-  set_month = 1;
-  opening_day = 8780;
-  calibration = None;
-}
 
 -- the members of its text, in the order of their bytes
 abbrev right_members : Members

@@ -6,7 +6,7 @@ use Rattle.std.specs.Cmp.Lexicographic.{pointwise}
 use Rattle.serde_json.specs.Data.{Data, Members}
 use Rattle.serde_json.specs.Find.{get, as_object}
 use Rattle.serde_json.specs.Read.{read}
-use Rattle.heat_model.specs.Heat.{Flow}
+use Rattle.parts_model.specs.Place.{Flow}
 use Rattle.platinum_model.specs.Element.{Element}
 use Rattle.config_model.specs.Configuration.{Configuration}
 use Rattle.accept_model.specs.Keys.{Key, keys, key_names}

@@ -4,10 +4,10 @@ use Rattle.std.specs.List.{list_all}
 use Rattle.std.specs.Cmp.Lexicographic.{pointwise}
 use Rattle.serde_json.specs.Data.{Data}
 use Rattle.serde_json.specs.Find.{as_number, as_str, as_u64}
-use Rattle.heat_model.specs.Heat.{Place, Flow, Return}
+use Rattle.parts_model.specs.Place.{Place, Flow, Return}
 use Rattle.script_model.specs.Numbers.{all_digits, value_after}
 use Rattle.script_model.specs.Dates.{date_in}
-use Rattle.config_model.specs.Configuration.{is_capital}
+use Rattle.parts_model.specs.Ranges.{is_capital}
 
 -- the value, where it passes a test
 abbrev pub passing : {A : Type 0} → (A → Bool) → Option A → Option A

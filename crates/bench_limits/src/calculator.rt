@@ -1,6 +1,8 @@
-ghost use Rattle.std.specs.Prelude.{◌≡◌, ◌^◌, ◌≤◌};
+ghost use Rattle.std.specs.Prelude.{◌≡◌, ◌≤◌};
 ghost use Rattle.number_model.specs.Rounding.{IsWithin};
 ghost use Rattle.water_model.specs.Decimal.{integer};
+ghost use Rattle.bench_model.specs.Ranges.{IsCalculator, max_energy, max_litres};
+ghost use Rattle.platinum_model.specs.Element.{max_udeg};
 ghost use Rattle.bench_model.specs.Verdicts.{calculator_verdict};
 ghost use Rattle.bench_limits.specs.Factors.{least_factor, most_factor};
 ghost use Rattle.bench_limits.specs.Verdict.{verdict_view};
@@ -14,13 +16,9 @@ use heat_coeff::Litre;
 /// a temperature difference of `delta_udeg` microdegrees, where a litre gives off an energy within `q`. Its limits
 /// are ±(0.5 + Δmin / Δ) % of EN 1434-1, with the least difference `dmin_udeg` in microdegrees.
 pub fn judge_point(dmin_udeg: u32, delta_udeg: u32, litres: u64, energy_mj: u64, q: Litre) -> Judged
-    requires least_difference { 1 ≤ dmin_udeg }
-    requires most_least_difference { dmin_udeg ≤ 180000000 }
+    requires calculator { IsCalculator dmin_udeg litres energy_mj }
     requires difference { 1 ≤ delta_udeg }
-    requires most_difference { delta_udeg ≤ 180000000 }
-    requires some_litres { 1 ≤ litres }
-    requires most_litres { litres ≤ 10 ^ 9 }
-    requires most_energy { energy_mj ≤ 10 ^ 18 }
+    requires most_difference { delta_udeg ≤ max_udeg }
     requires lo { IsWithin 2000000000 q.lo_mj }
     requires hi { IsWithin 2000000000 q.hi_mj }
     ensures { IsJudged (calculator_verdict dmin_udeg delta_udeg litres energy_mj)
@@ -33,10 +31,10 @@ pub fn judge_point(dmin_udeg: u32, delta_udeg: u32, litres: u64, energy_mj: u64,
 
 // The verdict where a litre gives off `q_mj` millijoules.
 fn verdict_at(dmin_udeg: u32, delta_udeg: u32, litres: u64, energy_mj: u64, q_mj: i128) -> Verdict
-    requires most_least_difference { dmin_udeg ≤ 180000000 }
-    requires most_difference { delta_udeg ≤ 180000000 }
-    requires most_litres { litres ≤ 10 ^ 9 }
-    requires most_energy { energy_mj ≤ 10 ^ 18 }
+    requires most_least_difference { dmin_udeg ≤ max_udeg }
+    requires most_difference { delta_udeg ≤ max_udeg }
+    requires most_litres { litres ≤ max_litres }
+    requires most_energy { energy_mj ≤ max_energy }
     requires litre { IsWithin 2000000000 q_mj }
     ensures { verdict_view result
         ≡ calculator_verdict dmin_udeg delta_udeg litres energy_mj (integer q_mj) }
@@ -55,8 +53,8 @@ struct Factors {
 }
 
 fn factors_of(dmin_udeg: u32, delta_udeg: u32) -> Factors
-    requires most_least_difference { dmin_udeg ≤ 180000000 }
-    requires most_difference { delta_udeg ≤ 180000000 }
+    requires most_least_difference { dmin_udeg ≤ max_udeg }
+    requires most_difference { delta_udeg ≤ max_udeg }
     ensures least { result.least ≡ least_factor dmin_udeg delta_udeg }
     ensures most { result.most ≡ most_factor dmin_udeg delta_udeg }
 {

@@ -1,4 +1,5 @@
-ghost use Rattle.std.specs.Prelude.{◌≡◌, ◌^◌, ◌≤◌};
+ghost use Rattle.std.specs.Prelude.{◌≡◌, ◌≤◌};
+ghost use Rattle.bench_model.specs.Ranges.{IsFlowSensor, last_class, max_flow, max_volume};
 ghost use Rattle.bench_model.specs.Verdicts.{flow_verdict, is_within_flow_limits, small_flow_share, greatest_limit};
 ghost use Rattle.bench_limits.specs.Judged.{judged_verdict};
 
@@ -18,15 +19,7 @@ struct ClassLimits {
 /// are this project's own: ±(1 + 0.01 qp / q) % and at most 3.5 % for class 1, ±(2 + 0.02 qp / q) % and at most 5 %
 /// for class 2, ±(3 + 0.05 qp / q) % and at most 5 % for class 3. Never undecided.
 pub fn judge_flow(class: u8, qp: u32, q: u32, reference: u64, indicated: u64) -> Judged
-    requires class { 1 ≤ class }
-    requires last_class { class ≤ 3 }
-    requires permanent { 1 ≤ qp }
-    requires most_permanent { qp ≤ 10 ^ 9 }
-    requires flow { 1 ≤ q }
-    requires most_flow { q ≤ 10 ^ 9 }
-    requires some_reference { 1 ≤ reference }
-    requires most_reference { reference ≤ 10 ^ 12 }
-    requires most_indicated { indicated ≤ 10 ^ 12 }
+    requires { IsFlowSensor class qp q reference indicated }
     ensures { result ≡ judged_verdict (flow_verdict class qp q reference indicated) }
 {
     if is_within(class, qp, q, reference, indicated) {
@@ -39,11 +32,11 @@ pub fn judge_flow(class: u8, qp: u32, q: u32, reference: u64, indicated: u64) ->
 }
 
 fn is_within(class: u8, qp: u32, q: u32, reference: u64, indicated: u64) -> bool
-    requires last_class { class ≤ 3 }
-    requires most_permanent { qp ≤ 10 ^ 9 }
-    requires most_flow { q ≤ 10 ^ 9 }
-    requires most_reference { reference ≤ 10 ^ 12 }
-    requires most_indicated { indicated ≤ 10 ^ 12 }
+    requires last_class { class ≤ last_class }
+    requires most_permanent { qp ≤ max_flow }
+    requires most_flow { q ≤ max_flow }
+    requires most_reference { reference ≤ max_volume }
+    requires most_indicated { indicated ≤ max_volume }
     ensures { result ≡ is_within_flow_limits class qp q reference indicated }
 {
     let limits = limits_of(class);

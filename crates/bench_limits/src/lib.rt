@@ -12,6 +12,3 @@ pub use calculator::judge_point;
 pub use flow::judge_flow;
 pub use judged::Judged;
 pub use pair::judge_pair;
-
-#[cfg(test)]
-mod tests;

@@ -1,6 +1,9 @@
-ghost use Rattle.std.specs.Prelude.{◌≡◌, ◌-◌, ◌*◌, ◌<◌, ◌≤◌, pos, ◌-ℤ◌};
+ghost use Rattle.std.specs.Prelude.{◌≡◌, ◌-◌, ◌*◌, ◌≤◌, pos, ◌-ℤ◌};
+ghost use Rattle.number_model.specs.Enclosure.{max_ndeg};
 ghost use Rattle.number_model.specs.Rounding.{IsWithin};
 ghost use Rattle.water_model.specs.Decimal.{integer};
+ghost use Rattle.bench_model.specs.Ranges.{IsSensorPair};
+ghost use Rattle.platinum_model.specs.Element.{max_udeg};
 ghost use Rattle.bench_model.specs.Verdicts.{pair_verdict};
 ghost use Rattle.bench_limits.specs.Verdict.{verdict_view};
 ghost use Rattle.bench_limits.specs.Judged.{IsJudged};
@@ -16,10 +19,7 @@ const NDEG_PER_UDEG: i128 = 1_000;
 /// ±(0.5 + 3 Δmin / Δ) % of EN 1434-1, with the least difference `dmin_udeg` in microdegrees. The ends of the
 /// difference that was read are in nanodegrees.
 pub fn judge_pair(dmin_udeg: u32, tf_udeg: u32, tr_udeg: u32, f: Span, r: Span) -> Judged
-    requires least_difference { 1 ≤ dmin_udeg }
-    requires most_least_difference { dmin_udeg ≤ 180000000 }
-    requires warmer { tr_udeg < tf_udeg }
-    requires range { tf_udeg ≤ 180000000 }
+    requires { IsSensorPair dmin_udeg tf_udeg tr_udeg }
     ensures { IsJudged (pair_verdict (1000 * dmin_udeg) (1000 * (tf_udeg - tr_udeg)))
         (pos f.lo -ℤ pos r.hi) (pos f.hi -ℤ pos r.lo) result }
 {
@@ -33,9 +33,9 @@ pub fn judge_pair(dmin_udeg: u32, tf_udeg: u32, tr_udeg: u32, f: Span, r: Span) 
 
 // The verdict where the pair read a difference of `read_ndeg` nanodegrees.
 fn verdict_at(dmin_udeg: u32, delta_udeg: u32, read_ndeg: i128) -> Verdict
-    requires most_least_difference { dmin_udeg ≤ 180000000 }
-    requires most_difference { delta_udeg ≤ 180000000 }
-    requires read { IsWithin 180000000000 read_ndeg }
+    requires most_least_difference { dmin_udeg ≤ max_udeg }
+    requires most_difference { delta_udeg ≤ max_udeg }
+    requires read { IsWithin max_ndeg read_ndeg }
     ensures { verdict_view result
         ≡ pair_verdict (1000 * dmin_udeg) (1000 * delta_udeg) (integer read_ndeg) }
 {

@@ -1,40 +1,17 @@
 -- The latest of a list, as entries are appended.
-use Rattle.std.proofs.Common.{◌≡◌, ℕ, zero, suc, ◌+◌, ◌-◌, ◌<◌, ◌≤◌, inl, inr, List, [], ◌∷◌, ◌++◌, length, map, filter, drop, refl, sym, ap, ◌∙◌, arith, Bool, true, max, min, append_assoc, length-append}
-use Rattle.std.proofs.lemmas.List.{drop-append-le, length-drop, drop-map, length-map, map-append}
+use Rattle.std.proofs.Common.{◌≡◌, ℕ, suc, ◌+◌, ◌-◌, ◌<◌, ◌≤◌, inl, inr, List, [], ◌∷◌, ◌++◌, length, map, filter, drop, refl, sym, ap, ◌∙◌, arith, Bool, true, max, min, append_assoc, length-append}
+use Rattle.std.proofs.lemmas.List.{drop-map, length-map, map-append}
 use Rattle.std.proofs.lemmas.List.Elements.{filter-append}
 use Rattle.std.proofs.lemmas.List.FromFn.{map-range_with_len_more, length-map-range_with_len}
-use Rattle.std.proofs.Math.ListN.{drop_of_length-le}
 use Rattle.std.proofs.Math.Seq.{drop-append_seam}
 use Rattle.std.proofs.lemmas.Bool.{cases_order}
 use Rattle.std.specs.List.{range_with_len}
 use Rattle.calendar_model.specs.Calendar.{IsMonthOf, months_passed}
-use Rattle.calendar_model.proofs.MonthLemmas.{IsInMonth-of, months_passed_is}
+use Rattle.calendar_model.proofs.MonthLemmas.{IsInMonth-of, months_passed_is, range_split}
+use Rattle.calendar_model.proofs.EntryLemmas.{latest-joined}
 use Rattle.calendar_model.specs.Entries.{latest, last_or}
 
 module _ {A : Type 0} where
-  pub latest-all : (k : ℕ) (xs : List A) → length xs ≤ k → latest k xs ≡ xs
-  latest-all k xs le = let none : length xs - k ≡ 0 = omega arith in ap (λ n. drop n xs) none
-
-  drop-drop : (m n : ℕ) (xs : List A) → drop m (drop n xs) ≡ drop (n + m) xs
-  drop-drop m zero xs = let none : 0 + m ≡ m = omega arith in ap (λ k. drop k xs) (sym none)
-  drop-drop m (suc n) [] = drop_of_length-le [] {i = m} (omega arith) ∙ sym (drop_of_length-le [] {i = suc n + m} (omega arith))
-  drop-drop m (suc n) (x ∷ xs) = let more : suc n + m ≡ suc (n + m) = omega arith in drop-drop m n xs ∙ ap (λ k. drop k (x ∷ xs)) (sym more)
-
-  pub latest-append : (k : ℕ) (xs ys : List A) → latest k (latest k xs ++ ys) ≡ latest k (xs ++ ys)
-  latest-append k xs ys =
-      elim (cases_order (length xs) k) [
-        | inl same ↦ ap (λ zs. latest k (zs ++ ys)) (latest-all k xs (omega arith))
-        | inr (inl short) ↦ ap (λ zs. latest k (zs ++ ys)) (latest-all k xs (omega arith))
-        | inr (inr long) ↦
-            let d = length xs - k in
-            let left : length (drop d xs ++ ys) - k ≡ length ys = omega (arith, length-append (drop d xs) ys, length-drop d xs) in
-            let right : length (xs ++ ys) - k ≡ d + length ys = omega (arith, length-append xs ys) in
-            ap (λ n. drop n (drop d xs ++ ys)) left
-            ∙ ap (drop (length ys)) (sym (drop-append-le d xs ys (omega arith)))
-            ∙ drop-drop (length ys) d (xs ++ ys)
-            ∙ ap (λ n. drop n (xs ++ ys)) (sym right)
-      ]
-
   -- what is before the latest k does not matter
   pub latest-last : (xs ys : List A) → latest (length ys) (xs ++ ys) ≡ ys
   latest-last xs ys =
@@ -56,24 +33,14 @@ entered_more {A} {E} view f k olds items news e start i le before is shown =
     let made = map f (range_with_len start (i - start)) in
     let count : i + 1 - start ≡ i - start + 1 = omega arith in
     ap (map view) is ∙ map-latest view k (items ++ e ∷ []) ∙ ap (latest k) (map-append view items (e ∷ []))
-    ∙ ap (λ xs. latest k (xs ++ view e ∷ [])) before ∙ latest-append k (olds ++ made) (view e ∷ [])
+    ∙ ap (λ xs. latest k (xs ++ view e ∷ [])) before ∙ latest-joined k (olds ++ made) (view e ∷ [])
     ∙ ap (latest k) (append_assoc olds made (view e ∷ []))
     ∙ ap (λ x. latest k (olds ++ (made ++ x ∷ []))) shown
     ∙ ap (λ xs. latest k (olds ++ xs)) (sym (map-range_with_len_more f start (i - start) i (omega arith)))
     ∙ ap (λ n. latest k (olds ++ map f (range_with_len start n))) (sym count)
 
-pub range_parts : (a n k : ℕ) → range_with_len a (n + k) ≡ range_with_len a n ++ range_with_len (a + n) k
-range_parts a zero k =
-    let none : 0 + k ≡ k = omega arith in
-    let same : a + 0 ≡ a = omega arith in
-    rw (none, same) refl
-range_parts a (suc n) k =
-    let more : suc n + k ≡ suc (n + k) = omega arith in
-    let next : a + suc n ≡ a + 1 + n = omega arith in
-    rw (more, next) (ap (λ xs. a ∷ xs) (range_parts (a + 1) n k))
-
-range_split : {E : Type 0} (f : ℕ → E) (a n k : ℕ) → map f (range_with_len a (n + k)) ≡ map f (range_with_len a n) ++ map f (range_with_len (a + n) k)
-range_split f a n k = ap (map f) (range_parts a n k) ∙ map-append f (range_with_len a n) (range_with_len (a + n) k)
+split_images : {E : Type 0} (f : ℕ → E) (a n k : ℕ) → map f (range_with_len a (n + k)) ≡ map f (range_with_len a n) ++ map f (range_with_len (a + n) k)
+split_images f a n k = ap (map f) (range_split a n k) ∙ map-append f (range_with_len a n) (range_with_len (a + n) k)
 
 -- only the latest need be made
 pub entered_skip : {E : Type 0} (f : ℕ → E) (k : ℕ) (olds : List E) (from to start : ℕ) → start ≡ max from (to - k)
@@ -94,7 +61,7 @@ entered_skip {E} f k olds from to start is =
           ap (λ s. latest k (olds ++ map f (range_with_len s (to - s)))) e
           ∙ ap (λ n. latest k (olds ++ map f (range_with_len (to - k) n))) rest ∙ kept olds
           ∙ sym (ap (λ n. latest k (olds ++ map f (range_with_len from n))) whole
-          ∙ ap (λ xs. latest k (olds ++ xs)) (range_split f from (to - from - k) k ∙ ap (λ a. early ++ map f (range_with_len a k)) there)
+          ∙ ap (λ xs. latest k (olds ++ xs)) (split_images f from (to - from - k) k ∙ ap (λ a. early ++ map f (range_with_len a k)) there)
           ∙ ap (latest k) (sym (append_assoc olds early late)) ∙ kept (olds ++ early))
     ]
 
@@ -106,7 +73,7 @@ filter_to_last p from to last le lt passes after =
     let whole : to - from ≡ last - from + suc rest = omega arith in
     let there : from + (last - from) ≡ last = omega arith in
     let parts : range_with_len from (to - from) ≡ range_with_len from (last - from) ++ last ∷ range_with_len (last + 1) rest =
-    ap (range_with_len from) whole ∙ range_parts from (last - from) (suc rest)
+    ap (range_with_len from) whole ∙ range_split from (last - from) (suc rest)
     ∙ ap (λ a. range_with_len from (last - from) ++ range_with_len a (suc rest)) there in
     let tail : filter p (last ∷ range_with_len (last + 1) rest) ≡ last ∷ [] = rw passes (ap (λ xs. last ∷ xs) after) in
     ap (filter p) parts ∙ filter-append p (range_with_len from (last - from)) (last ∷ range_with_len (last + 1) rest)

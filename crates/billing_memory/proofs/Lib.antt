@@ -1,3 +1,4 @@
 mod TextLemmas
 mod LatestLemmas
 pub mod RuleLemmas
+pub mod Dates

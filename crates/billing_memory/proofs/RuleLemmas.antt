@@ -8,10 +8,10 @@ use Rattle.std.proofs.Math.Seq.{drop-length}
 use Rattle.metering_model.specs.Records as records
 use Rattle.calendar_model.specs.Calendar.{IsMonthOf, first_day, months_to, is_first_day}
 use Rattle.calendar_model.specs.Entries.{MonthEntry, entry_of, days_of, latest, last_or, never_falls}
-use Rattle.calendar_model.proofs.MonthLemmas.{IsInMonth-of, months_to_is, months_ordered, first_day-le, first_day-counted, is_first_day-of}
+use Rattle.calendar_model.proofs.MonthLemmas.{IsInMonth-of, months_to_is, months_ordered, first_day-le, first_day-counted, is_first_day-of, range_split}
 use Rattle.jiff_core.proofs.StandardFacts.{known_days}
 use Rattle.billing_memory.specs.Entries.{pulses_of}
-use Rattle.billing_memory.proofs.LatestLemmas.{latest-last, map-latest, range_parts}
+use Rattle.billing_memory.proofs.LatestLemmas.{latest-last, map-latest}
 
 module _ {A : Type 0} where
   pub latest-none : (xs : List A) → latest 0 xs ≡ []
@@ -48,7 +48,7 @@ days_in_row {R} r old new old_month new_month kept olds news before after le row
     let whole : old_month + 1 + (new_month + 1 - (old_month + 1)) ≡ new_month + 1 = omega arith in
     let start : 0 + (old_month + 1) ≡ old_month + 1 = omega arith in
     let all : earlier ++ passed ≡ months_to new =
-    sym (ap (range_with_len 0) (sym whole) ∙ range_parts 0 (old_month + 1) (new_month + 1 - (old_month + 1))
+    sym (ap (range_with_len 0) (sym whole) ∙ range_split 0 (old_month + 1) (new_month + 1 - (old_month + 1))
     ∙ ap (λ a. earlier ++ range_with_len a (new_month + 1 - (old_month + 1))) start)
     ∙ sym (months_to_is new new_month to) in
     let some = latest 24 (latest kept earlier ++ passed) in

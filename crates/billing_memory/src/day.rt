@@ -1,7 +1,7 @@
 //! Days of the calendar of ISO 8601, from 2000-01-01 to 2099-12-31.
 
 ghost use Rattle.std.specs.Prelude.{◌≡◌, ◌+◌, ◌≤◌, ◌<◌, IfSome, IfNone, pos, ◌≤ℤ◌};
-ghost use Rattle.calendar_model.specs.Calendar.{IsCenturyDate, IsDay, IsMonthStart, IsMonthOf, first_day};
+ghost use Rattle.calendar_model.specs.Calendar.{IsCenturyDate, IsDay, IsMonthStart, IsMonthOf, first_day, is_day, last_day};
 ghost use Rattle.calendar_model.specs.Texts.{IsDayText};
 ghost use Rattle.jiff_core.specs.Date.{epoch_day};
 
@@ -13,12 +13,22 @@ use jiff_core::civil;
 // The days from the first date of `jiff`, -9999-01-01, to 2000-01-01.
 const FIRST_DAY: u32 = 4_382_544;
 
+/// The last day, 2099-12-31.
+pub const LAST_DAY: u16 = 36_524;
+
 /// A day of 2000 to 2099.
 #[derive(Clone, Copy, Debug, PartialEq, Eq)]
 pub struct Day {
-    /// The days since 2000-01-01, at most 36,524, which is 2099-12-31.
+    /// The days since 2000-01-01, at most [`LAST_DAY`].
     pub number: u16,
-    pub ghost in_century: { number ≤ 36524 },
+    pub ghost in_century: { number ≤ last_day },
+}
+
+/// Whether a day has this number.
+pub fn is_day(number: u16) -> bool
+    ensures { result ≡ is_day number }
+{
+    number <= LAST_DAY
 }
 
 /// The day of a date, and None exactly where the calendar has no such date in 2000 to 2099.

@@ -5,6 +5,7 @@ ghost use Rattle.std.specs.Int.{IsInRange};
 ghost use Rattle.std.specs.Option.{ForSome};
 ghost use Rattle.calendar_model.specs.Calendar.{first_day, months_to};
 ghost use Rattle.calendar_model.specs.Entries.{days_of, latest, never_falls};
+ghost use Rattle.metering_model.specs.Limits.{max_events, max_months};
 ghost use Rattle.billing_memory.specs.Entries.{entries_view, set_day_view, pulses_of};
 ghost use Rattle.arrayvec.specs.ArrayVec.{array_vec_len};
 
@@ -14,13 +15,16 @@ use arrayvec::ArrayVec;
 use energy_register::Register;
 use thiserror::Error;
 
+/// The most events that a meter keeps, 10^18.
+pub const MAX_EVENTS: u64 = 1_000_000_000_000_000_000;
+
 /// How many month entries a record keeps.
 pub const KEPT_MONTHS: usize = 24;
 
 /// What a meter has counted, and the entries that it keeps for billing.
 #[derive(Debug, PartialEq, Eq, Drop)]
 pub struct MeterRecord {
-    /// The events that the meter has kept, at most 10^18.
+    /// The events that the meter has kept, at most [`MAX_EVENTS`].
     pub seq: u64,
     /// The day in force.
     pub day: Day,
@@ -30,12 +34,12 @@ pub struct MeterRecord {
     pub faulty: u64,
     pub register: Register,
     /// The latest first days of months that were passed, oldest first.
-    pub months: ArrayVec<Entry, 24>,
+    pub months: ArrayVec<Entry, KEPT_MONTHS>,
     /// The latest first day of the set month that was passed.
     pub set_day: Option<Entry>,
-    pub ghost seq_in_range: { seq ≤ 1000000000000000000 },
+    pub ghost seq_in_range: { seq ≤ max_events },
     pub ghost faulty_in_range: { faulty ≤ register.pulses },
-    pub ghost months_kept: { array_vec_len months ≤ 24 },
+    pub ghost months_kept: { array_vec_len months ≤ max_months },
     pub ghost months_in_row: { days_of (entries_view months.items)
         ≡ map first_day (latest (array_vec_len months) (months_to day.number)) },
     pub ghost pulses_in_order: { IsTrue (never_falls (pulses_of (entries_view months.items)
@@ -109,7 +113,7 @@ impl MeterRecord {
         ensures in_force { IfErr result (λ e. e.in_force ≡ self.old.day) }
         ensures unchanged { OnErr result (self.new ≡ self.old) }
         ensures months { OnOk result (entries_view self.new.months.items
-            ≡ latest 24 (entries_view self.old.months.items
+            ≡ latest max_months (entries_view self.old.months.items
             ++ passed_entries (register_view self.old.register) self.old.day.number day.number)) }
         ensures set_day { OnOk result (set_day_view self.new.set_day
             ≡ set_entry (register_view self.old.register) set_month self.old.day.number day.number

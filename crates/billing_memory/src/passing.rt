@@ -6,6 +6,7 @@ ghost use Rattle.std.specs.List.{range_with_len};
 ghost use Rattle.arrayvec.specs.ArrayVec.{array_vec_len};
 ghost use Rattle.calendar_model.specs.Calendar.{month_of_year};
 ghost use Rattle.calendar_model.specs.Entries.{latest, last_or, entry_of};
+ghost use Rattle.metering_model.specs.Limits.{max_months};
 ghost use Rattle.energy_register.specs.Register.{register_view};
 ghost use Rattle.billing_memory.specs.Entries.{entry_view, entries_view, set_day_view};
 
@@ -15,23 +16,28 @@ use energy_register::Register;
 
 // Appends an entry for each month from `from` up to but not with `to`, and keeps the latest. Only
 // those that are kept are made.
-pub(crate) fn enter_months(months: &mut ArrayVec<Entry, 24>, register: Register, from: u16, to: u16)
+pub(crate) fn enter_months(
+    months: &mut ArrayVec<Entry, KEPT_MONTHS>,
+    register: Register,
+    from: u16,
+    to: u16,
+)
     requires known { to ≤ 1200 }
-    requires kept { array_vec_len months.old ≤ 24 }
+    requires kept { array_vec_len months.old ≤ max_months }
     ensures entered { entries_view months.new.items
-        ≡ latest 24 (entries_view months.old.items
+        ≡ latest max_months (entries_view months.old.items
         ++ map (entry_of (register_view register)) (range_with_len from (to - from))) }
-    ensures kept { array_vec_len months.new ≤ 24 }
+    ensures kept { array_vec_len months.new ≤ max_months }
 {
-    for month in from.max(to.saturating_sub(24))..to {
+    for month in from.max(to.saturating_sub(KEPT_MONTHS as u16))..to {
         push_latest(months, entry_at(register, month));
     }
 }
 
-fn push_latest(months: &mut ArrayVec<Entry, 24>, entry: Entry)
-    requires { array_vec_len months.old ≤ 24 }
-    ensures latest { months.new.items ≡ latest 24 (months.old.items ++ entry ∷ []) }
-    ensures kept { array_vec_len months.new ≤ 24 }
+fn push_latest(months: &mut ArrayVec<Entry, KEPT_MONTHS>, entry: Entry)
+    requires { array_vec_len months.old ≤ max_months }
+    ensures latest { months.new.items ≡ latest max_months (months.old.items ++ entry ∷ []) }
+    ensures kept { array_vec_len months.new ≤ max_months }
 {
     if months.len() == KEPT_MONTHS {
         months.remove(0);

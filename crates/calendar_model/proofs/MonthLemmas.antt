@@ -130,7 +130,8 @@ IsInMonth-not_passed old new old_month new_month month before after known (inr l
     let le = first_day-le (new_month + 1) month (omega arith) (omega arith) in
     grind (arith, after.before, le)
 
-range_split : (a n k : ℕ) → range_with_len a (n + k) ≡ range_with_len a n ++ range_with_len (a + n) k
+-- a range in two parts
+pub range_split : (a n k : ℕ) → range_with_len a (n + k) ≡ range_with_len a n ++ range_with_len (a + n) k
 range_split a zero k =
     let none : 0 + k ≡ k = omega arith in
     let same : a + 0 ≡ a = omega arith in

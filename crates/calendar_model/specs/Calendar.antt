@@ -3,6 +3,13 @@ use Rattle.std.specs.Prelude.{◌≡◌, ℕ, ◌+◌, ◌/◌, ◌%◌, ◌≤�
 use Rattle.std.specs.List.{range_with_len, list_any}
 use Rattle.jiff_core.specs.Calendar.{IsCivilDate, days_from_civil}
 
+-- 2099-12-31
+abbrev pub last_day : ℕ
+last_day = 36524
+
+abbrev pub is_day : ℕ → Bool
+is_day number = nat_le number last_day
+
 -- the calendar has this date, and it lies in 2000 to 2099
 pub record IsCenturyDate (year month day : ℕ) : Type 0 where
   pub early : 2000 ≤ year

@@ -1,8 +1,10 @@
 -- The configuration of a meter.
-use Rattle.std.specs.Prelude.{◌≡◌, ℕ, ◌*◌, ◌≤◌, ◌==◌, ◌||◌, ◌&&◌, nat_le, Bool, true, IsTrue, List, length, Option, None, Some}
+use Rattle.std.specs.Prelude.{◌≡◌, ℕ, ◌*◌, ◌≤◌, ◌&&◌, Bool, true, IsTrue, List, length, Option, None, Some}
 use Rattle.std.specs.Int.{IsInRange}
 use Rattle.std.specs.List.{list_all}
-use Rattle.heat_model.specs.Heat.{Place}
+use Rattle.parts_model.specs.Place.{Place}
+use Rattle.parts_model.specs.Ranges.{is_capital, is_pulse, is_sensor, last_month, max_address, max_decimals, max_pressure_kpa, max_serial, max_version, min_pressure_kpa}
+use Rattle.calendar_model.specs.Calendar.{last_day}
 use Rattle.platinum_model.specs.Element.{Element, nominal}
 use Rattle.platinum_model.specs.Calibration.{fits}
 
@@ -25,16 +27,6 @@ pub record Configuration : Type 0 where
   pub set_month : ℕ
   pub opening_day : ℕ
   pub calibration : Option (Element × Element)
-
--- A to Z
-abbrev pub is_capital : ℕ → Bool
-is_capital letter = nat_le 65 letter && nat_le letter 90
-
-abbrev pub is_sensor : ℕ → Bool
-is_sensor ohm = (ohm == 100) || (ohm == 500) || (ohm == 1000)
-
-abbrev pub is_pulse : ℕ → Bool
-is_pulse litres = (litres == 1) || (litres == 10) || (litres == 100) || (litres == 1000)
 
 -- the constants of a calibration fit sensors of so many ohms
 abbrev pub is_calibration : (sensor_ohm : ℕ) → Option (Element × Element) → Bool
@@ -65,16 +57,16 @@ both (Some f) (Some r) = Some (f, r)
 
 -- each part is in its range
 pub record IsConfiguration (c : Configuration) : Type 0 where
-  pub serial : c.serial ≤ 99999999
+  pub serial : c.serial ≤ max_serial
   pub maker_length : length c.maker ≡ 3
   pub maker : IsTrue (list_all is_capital c.maker)
-  pub version : c.version ≤ 255
-  pub address : c.address ≤ 250
-  pub pressure_kpa : IsInRange 1100 4000 c.pressure_kpa
+  pub version : c.version ≤ max_version
+  pub address : c.address ≤ max_address
+  pub pressure_kpa : IsInRange min_pressure_kpa max_pressure_kpa c.pressure_kpa
   pub sensor_ohm : IsTrue (is_sensor c.sensor_ohm)
   pub litres_per_pulse : IsTrue (is_pulse c.litres_per_pulse)
-  pub energy_decimals : c.energy_decimals ≤ 3
-  pub volume_decimals : c.volume_decimals ≤ 3
-  pub set_month : IsInRange 1 12 c.set_month
-  pub opening_day : c.opening_day ≤ 36524
+  pub energy_decimals : c.energy_decimals ≤ max_decimals
+  pub volume_decimals : c.volume_decimals ≤ max_decimals
+  pub set_month : IsInRange 1 last_month c.set_month
+  pub opening_day : c.opening_day ≤ last_day
   pub calibration : IsTrue (is_calibration c.sensor_ohm c.calibration)

@@ -42,9 +42,6 @@ turn w r d m i bits n e h size fits =
     let small = whole_small (w * 2 ^ bits + r * 2 ^ bits / d) (r * 2 ^ bits % d) d m (i + bits) n exact h size in
     rw (mod-eq_of_lt fits, mod-eq_of_lt {n = w * 2 ^ bits} {m = 2 ^ 128} (omega (arith, small))) (exact, small)
 
-pub quotient_of : (w r d n : ℕ) → r < d → w * d + r ≡ n → w ≡ n / d
-quotient_of w r d n small e = rw (← e) (sym (div-mul-add w d r small))
-
 -- ---- powers
 pub five_small : (n : ℕ) → n ≤ 54 → 5 ^ n < 2 ^ 127
 five_small n h = le_trans (suc-le-suc (pow-le-pow_right {n = 5} (lit< tt) h)) (lit≤ tt)

@@ -1,5 +1,6 @@
 ghost use Rattle.std.specs.Prelude.{◌≡◌, ℕ, ◌^◌, ◌<◌, ◌≤◌, IsTrue, map, pos, ◌+ℤ◌, ◌≤ℤ◌};
 ghost use Rattle.std.specs.List.{sum_by};
+ghost use Rattle.parts_model.specs.Ranges.{max_pressure_kpa, min_pressure_kpa};
 ghost use Rattle.number_model.specs.Fraction.{Fraction, ◌*ℚ◌, power, whole};
 ghost use Rattle.number_model.specs.Enclosure.{Holds};
 ghost use Rattle.water_model.specs.Region1.{region1};
@@ -24,7 +25,7 @@ pub fn collapse<const N: usize, const S: u32>(t: &Table<34>, part: Part, x: Enc<
     requires count { N ≡ count_of part }
     requires scale { S ≡ scale_of part }
     requires width { x.hi ≤ℤ (x.lo +ℤ pos 4) }
-    requires pressure { (p : ℕ) × (1100 ≤ p) × (p ≤ 4000) × Holds 56 x.lo x.hi (eighth_of (x_of p)) }
+    requires pressure { (p : ℕ) × (min_pressure_kpa ≤ p) × (p ≤ max_pressure_kpa) × Holds 56 x.lo x.hi (eighth_of (x_of p)) }
     ensures holds { (v : Fraction) →
         Holds 56 x.lo x.hi (eighth_of v) → HoldsEach S result.coef (part_coefficient part v) }
     ensures widths { WidthEach S result.coef (width_of part) }

@@ -18,6 +18,3 @@ pub use part::Part;
 pub use poly::Poly;
 pub use region1::region1_table;
 pub use table::{Table, Term};
-
-#[cfg(test)]
-mod tests;

@@ -1,15 +1,16 @@
 -- A register, and the steps that it takes.
 use Rattle.std.specs.Prelude.{◌≡◌, ℕ, ◌+◌, ◌*◌, ◌≤◌, ◌+ℤ◌, nat_abs}
+use Rattle.metering_model.specs.Limits.{max_bound_per_pulse, max_energy_per_pulse, max_pulses}
 use Rattle.metering_model.specs.Records as records
 use Rattle.energy_register.specs.declared.Register.{Register}
 use Rattle.energy_register.specs.declared.Step.{Step}
 
--- n pulses can have this step: at most 2 * 10^12 mJ either way and a bound of at most 2 * 10^6 mJ for each
+-- n pulses can have this step
 pub record FitsPulses (s : Step) (n : ℕ) : Type 0 where
   pub some : 1 ≤ n
-  pub pulses : n ≤ 1000000000000000
-  pub energy : nat_abs s.e_mj ≤ 2000000000000 * n
-  pub bound : s.b_mj ≤ 2000000 * n
+  pub pulses : n ≤ max_pulses
+  pub energy : nat_abs s.e_mj ≤ max_energy_per_pulse * n
+  pub bound : s.b_mj ≤ max_bound_per_pulse * n
 
 -- new is old with n more pulses and their step
 pub record Grows (old : Register) (s : Step) (n : ℕ) (new : Register) : Type 0 where

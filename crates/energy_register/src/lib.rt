@@ -2,14 +2,16 @@
 #![tactic(auto)]
 
 ghost use Rattle.std.specs.Prelude.{◌≡◌, ℕ, ◌+◌, ◌*◌, ◌≤◌, pos, nat_abs, IfOk, IfErr, IsOk, ◌↔◌};
+ghost use Rattle.metering_model.specs.Limits.{max_bound_per_pulse, max_energy_per_pulse, max_pulses};
 
 mod display;
+mod limits;
 
 pub use display::digits_text;
+pub use limits::{
+    MAX_BOUND_PER_PULSE, MAX_ENERGY_PER_PULSE, MAX_PULSES, is_bound_of, is_energy_of,
+};
 use thiserror::Error;
-
-/// The most pulses that a register counts, 10^15.
-pub const MAX_PULSES: u64 = 1_000_000_000_000_000;
 
 /// What some pulses add to a register.
 #[derive(Clone, Copy, Debug, PartialEq, Eq)]
@@ -25,15 +27,15 @@ pub struct Step {
 /// Counted pulses, and the energy that they carried with the bound of its error.
 #[derive(Clone, Copy, Debug, PartialEq, Eq)]
 pub struct Register {
-    /// 0 to 10^15.
+    /// At most [`MAX_PULSES`].
     pub pulses: u64,
-    /// Energy in millijoules, at most 2 * 10^12 for each pulse either way.
+    /// Energy in millijoules, at most [`MAX_ENERGY_PER_PULSE`] for each pulse either way.
     pub energy_mj: i128,
-    /// The bound of the energy's error in millijoules, at most 2 * 10^6 for each pulse.
+    /// The bound of the energy's error in millijoules, at most [`MAX_BOUND_PER_PULSE`] for each pulse.
     pub bound_mj: u128,
-    pub ghost pulses_in_range: { pulses ≤ 1000000000000000 },
-    pub ghost energy_in_range: { nat_abs energy_mj ≤ 2000000000000 * pulses },
-    pub ghost bound_in_range: { bound_mj ≤ 2000000 * pulses },
+    pub ghost pulses_in_range: { pulses ≤ max_pulses },
+    pub ghost energy_in_range: { nat_abs energy_mj ≤ max_energy_per_pulse * pulses },
+    pub ghost bound_in_range: { bound_mj ≤ max_bound_per_pulse * pulses },
 }
 
 /// The register can't count these pulses: it would then have `sum` of them, more than [`MAX_PULSES`].
@@ -65,7 +67,7 @@ impl Register {
     /// [`PulsesFull`] exactly where the pulses would be more than [`MAX_PULSES`], with that sum.
     pub fn after(&self, s: Step, n: u64) -> Result<Register, PulsesFull>
         requires { FitsPulses s n }
-        ensures room { IsOk result ↔ (self.now.pulses + n ≤ MAX_PULSES) }
+        ensures room { IsOk result ↔ (self.now.pulses + n ≤ max_pulses) }
         ensures grown { IfOk result (λ r. Grows self.now s n r) }
         ensures full { IfErr result (λ e. e.sum ≡ self.now.pulses + n) }
     {
@@ -85,35 +87,5 @@ impl Register {
         ensures { result ≡ self.now.pulses * per_pulse }
     {
         u128::from(self.pulses) * u128::from(per_pulse)
-    }
-}
-
-#[cfg(test)]
-mod tests {
-    use super::*;
-
-    #[test]
-    fn pulses_are_added_up_to_the_limit(rt: HostRuntime) {
-        let step = Step {
-            e_mj: -5,
-            b_mj: 7,
-            faulty: 0,
-        };
-        let after = Register::zero().after(step, MAX_PULSES - 1);
-        assert!(rt; after.is_ok());
-        let Ok(register) = after else {
-            return;
-        };
-        assert_eq!(rt; register.pulses, 999_999_999_999_999);
-        assert_eq!(rt; register.energy_mj, -5);
-        assert_eq!(rt; register.bound_mj, 7);
-        assert_eq!(rt; register.litres(1000), 999_999_999_999_999_000);
-        assert!(rt; register.after(step, 1).is_ok());
-        assert_eq!(rt;
-            register.after(step, 2),
-            Err(PulsesFull {
-                sum: 1_000_000_000_000_001
-            })
-        );
     }
 }

@@ -6,7 +6,7 @@ use Rattle.std.proofs.lemmas.List.{take-append-drop, length-take-le, length-take
 use Rattle.std.proofs.Math.Seq.{take-add, drop-append-add}
 use Rattle.metering_model.specs.Records.{MeterRecord}
 use Rattle.script_model.specs.Lines.{lines_of, after_line}
-use Rattle.journal_model.specs.Faults.{Command, Fault, TooMany, TooLong, fault_of, has_no_end, is_open}
+use Rattle.answer_model.specs.Faults.{Command, Fault, TooMany, TooLong, fault_of, has_no_end, is_open}
 use Rattle.event_script.specs.Next.{AreTooMany, EndsBehind}
 use Rattle.event_script.proofs.Cuts.{place, no_place}
 

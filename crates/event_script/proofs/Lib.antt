@@ -1,6 +1,5 @@
 pub mod Bytes
 pub mod Cuts
-pub mod Dates
 pub mod Numbers
 pub mod Held
 pub mod Ends

@@ -7,7 +7,7 @@ use Rattle.std.proofs.Math.Seq.{take-length}
 use Rattle.std.proofs.Math.ListN.{drop_of_length-le}
 use Rattle.script_model.specs.Lines.{lines_of, after_line}
 use Rattle.script_model.proofs.After.{lines_of-after_line}
-use Rattle.journal_model.specs.Faults.{has_no_end, is_open}
+use Rattle.answer_model.specs.Faults.{has_no_end, is_open}
 use Rattle.event_script.specs.Next.{AreTooMany, AsksWhereOpen, Decides, EndsBehind, GivesLine, NextGives}
 use Rattle.event_script.specs.Views.{fault_view}
 use Rattle.event_script.specs.declared.next.Next.{Next}

@@ -6,7 +6,8 @@ use Rattle.std.proofs.lemmas.Bool.{cases_Bool, eqb-true, leb-true}
 use Rattle.metering_model.specs.Events.{Pulse}
 use Rattle.script_model.specs.Lines.{words_of}
 use Rattle.script_model.specs.Numbers.{all_digits, is_digit, is_number, number_in, value_after}
-use Rattle.script_model.specs.Grammar.{◌>>=◌, Metering, end_at, line_of, max_pulses, pulse_line, said_by}
+use Rattle.script_model.specs.Grammar.{◌>>=◌, Metering, end_at, line_of, pulse_line, said_by}
+use Rattle.metering_model.specs.Limits.{max_pulses}
 use Rattle.event_script.proofs.Cuts.{some_step}
 use Rattle.event_script.proofs.Ends.{and_both, and_step}
 

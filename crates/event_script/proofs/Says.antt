@@ -4,7 +4,7 @@ use Rattle.std.proofs.lemmas.Bool.{lt-leb, le-ltb}
 use Rattle.metering_model.specs.Records.{MeterRecord}
 use Rattle.script_model.specs.Grammar as grammar
 use Rattle.script_model.specs.Grammar.{line_of}
-use Rattle.journal_model.specs.Faults.{Command, fault_of, said_fault}
+use Rattle.answer_model.specs.Faults.{Command, fault_of, said_fault}
 use Rattle.event_script.specs.Next.{SaysAt}
 
 pub decides : {n : ℕ} {line : List ℕ} {said : grammar.Line} → SaysAt n line said → (command : Command) (r : MeterRecord) → fault_of command r n line ≡ said_fault command r (Ok said)

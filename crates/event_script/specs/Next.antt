@@ -4,7 +4,7 @@ use Rattle.metering_model.specs.Records.{MeterRecord}
 use Rattle.script_model.specs.Lines.{after_line, lines_of}
 use Rattle.script_model.specs.Grammar as grammar
 use Rattle.script_model.specs.Grammar.{line_of}
-use Rattle.journal_model.specs.Faults.{Command, fault_of, has_no_end, is_open, max_line_len, max_lines}
+use Rattle.answer_model.specs.Faults.{Command, fault_of, has_no_end, is_open, max_line_len, max_lines}
 use Rattle.event_script.specs.declared.LineFault.{LineFault}
 use Rattle.event_script.specs.declared.LineFault.TheVariants.{Grammar, DateBack, PulsesFull, EventsFull, TooLong, TooMany, NotDry}
 use Rattle.event_script.specs.declared.next.Next.{Next}

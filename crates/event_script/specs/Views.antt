@@ -1,9 +1,10 @@
 -- What the code's types say, in the words of the definitions.
 use Rattle.std.specs.Prelude.{◌≡◌, ℕ, ◌≤◌, List, [], length, Option, None, Some, Result, Ok, Err, MatchResult}
+use Rattle.metering_model.specs.Limits.{max_pulses}
 use Rattle.metering_model.specs.Events as events
 use Rattle.script_model.specs.Lines.{words_of}
 use Rattle.script_model.specs.Grammar as grammar
-use Rattle.journal_model.specs.Faults as faults
+use Rattle.answer_model.specs.Faults as faults
 use Rattle.event_script.specs.declared.Event.{Event}
 use Rattle.event_script.specs.declared.Event.TheVariants.{Sample, Pulse, Date}
 use Rattle.event_script.specs.declared.Line.{Line}
@@ -41,7 +42,7 @@ Reads result bytes said = MatchResult result (λ line. said ≡ Ok (line_view li
 -- a pulse event has 1 to 10^15 pulses
 abbrev pub IsEvent : Event → Type 0
 IsEvent (Sample rf rr) = Unit {0}
-IsEvent (Pulse n) = (1 ≤ n) × (n ≤ 1000000000000000)
+IsEvent (Pulse n) = (1 ≤ n) × (n ≤ max_pulses)
 IsEvent (Date day) = Unit {0}
 
 -- a cut is within the first call or a later one, and keeps no more than the memory has

@@ -2,7 +2,6 @@
 #![tactic(auto)]
 
 mod buffer;
-mod date;
 mod lines;
 #[cfg(test)]
 mod lines_tests;

@@ -1,6 +1,6 @@
 //! The lines of a script, as a source gives its bytes.
 ghost use Rattle.std.specs.Prelude.{◌≡◌, ◌≢◌, ◌+◌, ◌≤◌, ◌⊎◌, ◌++◌, [], true, false, length, take, drop, if◌then◌else◌};
-ghost use Rattle.journal_model.specs.Faults.{is_open};
+ghost use Rattle.answer_model.specs.Faults.{is_open};
 ghost use Rattle.meter_board.specs.Causes.{Rose};
 ghost use Rattle.event_script.specs.Held.{held};
 ghost use Rattle.event_script.specs.Next.{AsksWhereOpen, GivesInRange, GivesLine, GivesMessage, NextGives, is_got};
@@ -53,6 +53,7 @@ impl Lines {
     }
 
     /// What comes next. Each answer but a line ends it.
+    #[inline(always)]
     pub fn next<S: Source>(&mut self, source: &mut S) -> Next
         requires { self.old.has_ended ≡ false }
         ensures gives { S.tells → NextGives self.old.given (held self.old.buffer ++ S.left source.old) result self.new.message.items (held self.new.buffer ++ S.left source.new) }
@@ -84,6 +85,7 @@ impl Lines {
     }
 
     // Gives the last line, which has no LF, where there is one.
+    #[inline(never)]
     fn give_last(&mut self) -> Next
         requires open { is_open self.old.given (held self.old.buffer) ≡ true }
         requires fresh { self.old.has_ended ≡ false }
@@ -103,6 +105,7 @@ impl Lines {
     }
 
     // Gives the line of the first `len` bytes that are held, and goes on behind its LF.
+    #[inline(always)]
     fn give(&mut self, len: usize) -> Next
         requires len { len ≤ length (held self.old.buffer) }
         requires fresh { self.old.has_ended ≡ false }

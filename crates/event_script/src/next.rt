@@ -1,6 +1,6 @@
 //! What comes next in a script.
 ghost use Rattle.std.specs.Prelude.{◌≡◌, ◌≤◌, ◌↔◌, true, length, take, IsTrue, IfErr, IfOk, MatchOption, MatchResult};
-ghost use Rattle.journal_model.specs.Faults.{has_no_end, is_open};
+ghost use Rattle.answer_model.specs.Faults.{has_no_end, is_open};
 ghost use Rattle.event_script.specs.Next.{AreTooMany, Decides, IsOfLine, IsRefusedFor, SaysAt};
 ghost use Rattle.event_script.specs.Views.{HasMessage, IsInRange, line_view};
 

@@ -1,6 +1,7 @@
 //! What a line says.
 ghost use Rattle.std.specs.Prelude.{◌≡◌, ◌≤◌, List, ℕ, length, Ok, Err, IfOk, IfSome, MatchResult};
 ghost use Rattle.std.specs.Option.{ForSome, option_map};
+ghost use Rattle.metering_model.specs.Limits.{max_pulses};
 ghost use Rattle.metering_model.specs.Events as events;
 ghost use Rattle.script_model.specs.Grammar as grammar;
 ghost use Rattle.script_model.specs.Grammar.{line_of, sample_line, pulse_line, date_line, power_line, cut_line, opt_line, mbus_line, word_at, end_at};
@@ -8,17 +9,15 @@ ghost use Rattle.script_model.specs.Numbers.{number_in};
 ghost use Rattle.script_model.specs.Hex.{byte_in, hex_in};
 ghost use Rattle.event_script.specs.Views.{HasMessage, IsInRange, Reads, line_view, rest_words};
 
-use crate::date::date_word;
 use crate::message::{Message, byte_word, message_word};
 use crate::number::number_word;
 use crate::words::split_word;
 use crate::{Event, Grammar, Line};
+use billing_memory::date_word;
+use energy_register::MAX_PULSES;
 
 /// The greatest sample, in microohms.
 const MAX_SAMPLE: u64 = 4_294_967_295;
-
-/// The most pulses of one line.
-const MAX_PULSES: u64 = 1_000_000_000_000_000;
 
 /// The latest store or sync, counted from a `cut` line on, that it can name.
 const MAX_CALLS: u64 = 65_535;
@@ -46,7 +45,7 @@ pub fn read_line(line: &[u8], message: &mut Message) -> Result<Line, Grammar>
 // The pulses of a line `pulse N`, as most lines are. There is none where the line has a fault.
 fn pulses_of(line: &[u8]) -> Option<u64>
     ensures said { IfSome result (λ n. line_of line.now ≡ Ok (grammar.Metering (events.Pulse n))) }
-    ensures range { IfSome result (λ n. (1 ≤ n) × (n ≤ 1000000000000000)) }
+    ensures range { IfSome result (λ n. (1 ≤ n) × (n ≤ max_pulses)) }
 {
     match line.strip_prefix(b"pulse ".as_slice()) {
         Some(word) => number_word(word, 1, MAX_PULSES),
@@ -54,7 +53,8 @@ fn pulses_of(line: &[u8]) -> Option<u64>
     }
 }
 
-// Reads a line word by word.
+// Reads a line word by word. Most lines are read in one go, so it stays a call.
+#[inline(never)]
 fn read_words(line: &[u8], message: &mut Message) -> Result<Line, Grammar>
     requires { length line.now ≤ 120 }
     ensures said { Reads result message.new.items (line_of line.now) }

@@ -2,7 +2,8 @@
 use Rattle.std.proofs.Common.{◌≡◌, ℕ, true, nat_lt, ◌<◌, List, [], ◌∷◌, length, get_or, refl, ap, arith}
 use Rattle.std.specs.List.{list_all}
 use Rattle.std.proofs.lemmas.List.Elements.{All-nil, All-cons}
-use Rattle.frame_model.specs.Frames.{Frame, Ack, Short, Long, AreBytes, Spells, checksum, frame_bytes}
+use Rattle.frame_model.specs.Frames.{Frame, Ack, Short, Long, Spells, checksum, frame_bytes}
+use Rattle.byte_model.specs.Bytes.{AreBytes}
 
 acknowledgement : frame_bytes Ack ≡ 0xe5 ∷ []
 acknowledgement = refl

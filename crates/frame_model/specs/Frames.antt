@@ -1,6 +1,7 @@
 -- Frames of the M-Bus link layer, and their bytes.
-use Rattle.std.specs.Prelude.{◌≡◌, ℕ, ◌%◌, ◌<◌, ◌≤◌, List, [], ◌∷◌, ◌++◌, length}
-use Rattle.std.specs.List.{All, sum}
+use Rattle.std.specs.Prelude.{◌≡◌, ℕ, ◌%◌, ◌≤◌, List, [], ◌∷◌, ◌++◌, length}
+use Rattle.std.specs.List.{sum}
+use Rattle.byte_model.specs.Bytes.{AreBytes}
 
 -- An acknowledgement; a short frame of control field and address; or a long one of control field, address, control
 -- information and a body.
@@ -23,9 +24,6 @@ frame_bytes Ack = 229 ∷ []
 frame_bytes (Short c a) = 16 ∷ closed (c ∷ a ∷ [])
 frame_bytes (Long c a ci body) =
     104 ∷ length (c ∷ a ∷ ci ∷ body) ∷ length (c ∷ a ∷ ci ∷ body) ∷ 104 ∷ closed (c ∷ a ∷ ci ∷ body)
-
-abbrev pub AreBytes : List ℕ → Type 0
-AreBytes numbers = All (λ n. n < 256) numbers
 
 -- each part is a byte, and so is the number of the counted ones: the body has at most 252
 abbrev pub IsFrame : Frame → Type 0

@@ -1,14 +1,14 @@
 ghost use Rattle.std.specs.Prelude.{◌≡◌, ◌+◌, ◌-◌, ◌*◌, ◌^◌, ◌≤◌, pos, ◌-ℤ◌, ◌*ℤ◌, ◌≤ℤ◌};
 ghost use Rattle.number_model.specs.Fraction.{◌*ℚ◌, whole};
-ghost use Rattle.platinum_model.specs.Element.{microdegrees};
+ghost use Rattle.platinum_model.specs.Element.{max_udeg, microdegrees};
 ghost use Rattle.heat_model.specs.Heat.{LiesBetween, heat_coefficient};
-ghost use Rattle.sensor_pair.specs.Place.{place_view};
+ghost use Rattle.meter_parts.specs.Views.{place_view};
 
 use crate::quotient::quotient_ends;
 use crate::water_heat::{heat_given, metered_volume};
 use if97_region1::{Variables, Water};
 use interval_num::Span;
-use sensor_pair::Place;
+use meter_parts::Place;
 
 /// 10^6 microdegrees a degree and 10^6 units a kJ/(m³ K), times 2^56 / 2^48 of the scales of the
 /// volume and the enthalpy.
@@ -28,7 +28,7 @@ pub struct Factor {
 /// The distance of the ends, less 2, times the difference of the temperatures is at most 5 * 10^8.
 pub fn coeff(w: &Water, place: Place, tf_udeg: u32, tr_udeg: u32) -> Factor
     requires apart { tr_udeg + 10000 ≤ tf_udeg }
-    requires range { tf_udeg ≤ 180000000 }
+    requires range { tf_udeg ≤ max_udeg }
     ensures holds { LiesBetween result.lo result.hi
         (whole 1000000 *ℚ heat_coefficient w.now.p_kpa (place_view place)
         (microdegrees tf_udeg) (microdegrees tr_udeg)) }
@@ -49,7 +49,7 @@ pub fn coeff(w: &Water, place: Place, tf_udeg: u32, tr_udeg: u32) -> Factor
 
 /// The variables at the one temperature `t_udeg`.
 fn point(t_udeg: u32) -> Variables
-    requires { t_udeg ≤ 180000000 }
+    requires { t_udeg ≤ max_udeg }
     ensures lo { result.span.lo ≡ t_udeg * 1000 }
     ensures hi { result.span.hi ≡ t_udeg * 1000 }
 {

@@ -8,6 +8,3 @@ mod water_heat;
 
 pub use factor::{Factor, coeff};
 pub use litre::{Litre, litre_energy};
-
-#[cfg(test)]
-mod tests;

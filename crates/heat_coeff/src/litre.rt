@@ -3,13 +3,13 @@ ghost use Rattle.number_model.specs.Fraction.{Fraction};
 ghost use Rattle.number_model.specs.Enclosure.{SpanHolds};
 ghost use Rattle.number_model.specs.Rounding.{IsWithin};
 ghost use Rattle.heat_model.specs.Heat.{LiesBetween, litre_energy};
-ghost use Rattle.sensor_pair.specs.Place.{place_view};
+ghost use Rattle.meter_parts.specs.Views.{place_view};
 
 use crate::quotient::quotient_ends;
 use crate::water_heat::{heat_given, metered_volume};
 use if97_region1::{Variables, Water};
 use interval_num::Span;
-use sensor_pair::Place;
+use meter_parts::Place;
 
 /// 1,000 mJ/l for each kJ/m³, times 2^56 / 2^48 of the scales of the volume and the enthalpy.
 const MILLIJOULES: u64 = 256_000;

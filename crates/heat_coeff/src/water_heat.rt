@@ -3,11 +3,11 @@ ghost use Rattle.number_model.specs.Fraction.{Fraction, ◌-ℚ◌};
 ghost use Rattle.number_model.specs.Enclosure.{Holds, SpanHolds};
 ghost use Rattle.water_model.specs.Water.{volume, enthalpy};
 ghost use Rattle.heat_model.specs.Heat.{metered_at};
-ghost use Rattle.sensor_pair.specs.Place.{place_view};
+ghost use Rattle.meter_parts.specs.Views.{place_view};
 
 use if97_region1::{Variables, Water};
 use interval_num::Enc;
-use sensor_pair::Place;
+use meter_parts::Place;
 
 /// h(flow) - h(return), in kJ/kg.
 pub(crate) fn heat_given(w: &Water, f: &Variables, r: &Variables) -> Enc<48>

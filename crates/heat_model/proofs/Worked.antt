@@ -5,7 +5,8 @@ use Rattle.number_model.specs.Fraction.{◌≤ℚ◌, whole, power}
 use Rattle.water_model.specs.Decimal.{minus, decimal, whole_power}
 use Rattle.water_model.specs.Region1.{region1}
 use Rattle.water_model.specs.Water.{sum_over, volume, enthalpy}
-use Rattle.heat_model.specs.Heat.{Flow, Return, litre_energy, heat_coefficient, LiesBetween}
+use Rattle.heat_model.specs.Heat.{litre_energy, heat_coefficient, LiesBetween}
+use Rattle.parts_model.specs.Place.{Flow, Return}
 
 -- 41,303,818.149 mJ where the sensor sits in the return, and 41,101,816.00003 mJ where it sits in the flow
 metered_in_return : LiesBetween (pos 41303818) (pos 41303819) (litre_energy 1600 Return (whole 60) (whole 50))

@@ -1,13 +1,9 @@
 -- The heat that water gives off between flow and return, after EN 1434-1.
 use Rattle.std.specs.Prelude.{ℕ, ℤ}
 use Rattle.number_model.specs.Fraction.{Fraction, ◌≤ℚ◌, ◌-ℚ◌, ◌*ℚ◌, ◌/ℚ◌, whole}
+use Rattle.parts_model.specs.Place.{Place, Flow, Return}
 use Rattle.water_model.specs.Decimal.{integer}
 use Rattle.water_model.specs.Water.{volume, enthalpy}
-
--- the pipe in which the flow sensor sits
-pub data Place : Type 0 where
-  Flow : Place
-  Return : Place
 
 -- of the temperatures in flow and return, the one at which the flow sensor measures the volume
 abbrev pub metered_at : Place → (flow ret : Fraction) → Fraction

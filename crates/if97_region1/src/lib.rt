@@ -11,6 +11,3 @@ mod water;
 pub use polys::Polys;
 pub use region1_terms::Variables;
 pub use water::{Pressure, Water};
-
-#[cfg(test)]
-mod tests;

@@ -1,4 +1,5 @@
 ghost use Rattle.std.specs.Prelude.{◌≡◌, ◌+◌, ◌-◌, ◌*◌, ◌^◌, ◌≤◌, ◌↔◌, IsOk, IfOk, IfErr, pos, neg_ℤ, ◌+ℤ◌, ◌-ℤ◌, ◌*ℤ◌, ◌≤ℤ◌};
+ghost use Rattle.parts_model.specs.Ranges.{max_pressure_kpa, min_pressure_kpa};
 ghost use Rattle.number_model.specs.Fraction.{Fraction};
 ghost use Rattle.number_model.specs.Enclosure.{Holds, SpanHolds};
 ghost use Rattle.water_model.specs.Water.{x_of, volume, enthalpy};
@@ -25,15 +26,15 @@ pub struct Pressure {
 pub struct Water {
     pub p_kpa: u32,
     tables: Polys,
-    pub ghost low: { 1100 ≤ p_kpa },
-    pub ghost high: { p_kpa ≤ 4000 },
+    pub ghost low: { min_pressure_kpa ≤ p_kpa },
+    pub ghost high: { p_kpa ≤ max_pressure_kpa },
     pub ghost collapsed: { HoldsParts (x_of p_kpa) tables },
 }
 
 // x / 8 at p kPa, as `collapse` wants it
 fn x_eighth(p: u32) -> Enc<56>
-    requires low { 1100 ≤ p }
-    requires high { p ≤ 4000 }
+    requires low { min_pressure_kpa ≤ p }
+    requires high { p ≤ max_pressure_kpa }
     ensures holds { Holds 56 result.lo result.hi (eighth_of (x_of p)) }
     ensures width { result.hi ≤ℤ (result.lo +ℤ pos 4) }
 {
@@ -42,8 +43,8 @@ fn x_eighth(p: u32) -> Enc<56>
 
 // the tables at p kPa
 fn tables_at(p: u32) -> Polys
-    requires low { 1100 ≤ p }
-    requires high { p ≤ 4000 }
+    requires low { min_pressure_kpa ≤ p }
+    requires high { p ≤ max_pressure_kpa }
     ensures { HoldsParts (x_of p) result }
 {
     let rows = region1_table();
@@ -59,7 +60,7 @@ fn tables_at(p: u32) -> Polys
 impl Water {
     /// Water at `p_kpa` kPa, or the pressure where it is outside 1,100 to 4,000.
     pub fn new(p_kpa: u32) -> Result<Water, Pressure>
-        ensures accepted { IsOk result ↔ ((1100 ≤ p_kpa) × (p_kpa ≤ 4000)) }
+        ensures accepted { IsOk result ↔ ((min_pressure_kpa ≤ p_kpa) × (p_kpa ≤ max_pressure_kpa)) }
         ensures kept { IfOk result (λ w. w.p_kpa ≡ p_kpa) }
         ensures refused { IfErr result (λ e. e.p_kpa ≡ p_kpa) }
     {

@@ -12,6 +12,3 @@ mod span;
 pub use enc::Enc;
 pub use ratio::Ratio;
 pub use span::Span;
-
-#[cfg(test)]
-mod tests;

@@ -75,11 +75,23 @@ impl LineText {
     {
         match u64::try_from(number) {
             Ok(number) => self.put_number(number),
-            Err(_) => self.put(Buffer::new().format(number).as_bytes()),
+            Err(_) => self.put_formatted(number),
         }
     }
 
+    // Puts the digits of a number in front by way of a buffer.
+    #[cold]
+    #[inline(never)]
+    fn put_formatted(&mut self, number: u128)
+        requires { length (text_of self.old) ≤ 121 }
+        ensures text { text_of self.new ≡ decimal number ++ text_of self.old }
+        ensures short { length (text_of self.new) ≤ length (text_of self.old) + 39 }
+    {
+        self.put(Buffer::new().format(number).as_bytes());
+    }
+
     /// Puts a number in front, with its sign where it is negative: at most 40 bytes.
+    #[inline(always)]
     pub fn put_signed(&mut self, number: i128)
         requires { length (text_of self.old) ≤ 120 }
         ensures text { text_of self.new ≡ signed_decimal number ++ text_of self.old }

@@ -4,7 +4,8 @@ use Rattle.std.specs.Prelude.{IfSome}
 use Rattle.std.specs.List.{fold}
 use Rattle.std.proofs.lemmas.List.Folds.{fold_along}
 use Rattle.std.proofs.lemmas.List.{take_all}
-use Rattle.frame_model.specs.Frames.{Frame, Ack, Short, Long, AreBytes, checksum, closed, Spells}
+use Rattle.frame_model.specs.Frames.{Frame, Ack, Short, Long, checksum, closed, Spells}
+use Rattle.byte_model.specs.Bytes.{AreBytes}
 use Rattle.frame_model.proofs.Frames.{one_frame}
 use Rattle.mbus_link.specs.Views.{Parses, frame_view}
 use Rattle.mbus_link.specs.declared.frame.Frame as link

@@ -1,7 +1,8 @@
 //! A frame.
 
 ghost use Rattle.std.specs.Prelude.{◌≡◌};
-ghost use Rattle.frame_model.specs.Frames.{checksum, AreBytes};
+ghost use Rattle.frame_model.specs.Frames.{checksum};
+ghost use Rattle.byte_model.specs.Bytes.{AreBytes};
 
 use arrayvec::ArrayVec;
 

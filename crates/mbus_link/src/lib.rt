@@ -3,8 +3,6 @@
 
 mod frame;
 mod reading;
-#[cfg(test)]
-mod tests;
 mod writing;
 
 pub use frame::Frame;

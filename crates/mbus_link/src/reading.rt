@@ -2,7 +2,8 @@
 
 ghost use Rattle.std.specs.Prelude.{◌≡◌, ℕ, List, ◌∷◌, ◌≤◌, length, IfSome, MatchOption};
 ghost use Rattle.frame_model.specs.Frames as frames;
-ghost use Rattle.frame_model.specs.Frames.{AreBytes, Spells, closed};
+ghost use Rattle.frame_model.specs.Frames.{Spells, closed};
+ghost use Rattle.byte_model.specs.Bytes.{AreBytes};
 ghost use Rattle.mbus_link.specs.Views.{Parses, frame_view};
 
 use crate::Frame;

@@ -1,13 +1,14 @@
 //! A frame, written as bytes.
 
 ghost use Rattle.std.specs.Prelude.{◌≡◌, ◌+◌, ◌≤◌, [], ◌∷◌, ◌++◌, length};
-ghost use Rattle.arrayvec.specs.ArrayVec.{array_vec_len};
-ghost use Rattle.frame_model.specs.Frames.{AreBytes, Spells, closed};
+ghost use Rattle.frame_model.specs.Frames.{Spells, closed};
+ghost use Rattle.byte_model.specs.Bytes.{AreBytes};
 ghost use Rattle.mbus_link.specs.Views.{frame_view};
 
 use crate::Frame;
 use crate::frame::checksum;
 use arrayvec::ArrayVec;
+use byte_lists::append;
 
 /// The bytes of a frame, its one spelling. [`parse`](crate::parse) reads the same frame again.
 pub fn write(f: &Frame) -> ArrayVec<u8, 261>
@@ -45,11 +46,4 @@ fn framed(start: &[u8], fields: &[u8], body: &[u8]) -> ArrayVec<u8, 261>
     out.push(sum);
     out.push(0x16);
     out
-}
-
-fn append(out: &mut ArrayVec<u8, 261>, bytes: &[u8])
-    requires { array_vec_len out.old + length bytes.now ≤ 261 }
-    ensures { out.new.items ≡ out.old.items ++ bytes.now }
-{
-    out.try_extend_from_slice(bytes).unwrap();
 }

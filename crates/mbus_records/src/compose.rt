@@ -9,18 +9,17 @@ ghost use Rattle.mbus_link.specs.Views.{frame_view};
 ghost use Rattle.billing_memory.specs.Records.{record_view};
 ghost use Rattle.billing_memory.specs.Entries.{set_day_view};
 ghost use Rattle.meter_config.specs.Views.{config_view};
-ghost use Rattle.sensor_pair.specs.Place.{place_view};
+ghost use Rattle.meter_parts.specs.Views.{place_view};
 
 use crate::months::push_months;
-use crate::push::{
-    ROOM, decimal_bytes, push_bytes, push_date, push_energy, push_entry, push_volume,
-};
+use crate::push::{ROOM, decimal_bytes, push_date, push_energy, push_entry, push_volume};
 use crate::temps::push_samples;
 use arrayvec::ArrayVec;
 use billing_memory::{Entry, MeterRecord};
+use byte_lists::append;
 use mbus_link::Frame;
 use meter_config::Config;
-use sensor_pair::Place;
+use meter_parts::Place;
 
 // The control field of a slave's reply, and the control information of data behind a long header.
 const RESPONSE: u8 = 0x08;
@@ -67,9 +66,9 @@ fn push_header(body: &mut ArrayVec<u8, ROOM>, c: &Config, access: u8)
     ensures items { body.new.items ≡ body.old.items ++ model.header (config_view c.now) access }
     ensures len { array_vec_len body.new ≡ array_vec_len body.old + 12 }
 {
-    push_bytes(body, &decimal_bytes(c.serial));
-    push_bytes(body, &maker_code(c).to_le_bytes());
-    push_bytes(body, &[c.version, medium(c.place), access, 0, 0, 0]);
+    append(body, &decimal_bytes(c.serial));
+    append(body, &maker_code(c).to_le_bytes());
+    append(body, &[c.version, medium(c.place), access, 0, 0, 0]);
 }
 
 // The maker's letters, five bits each, with A = 1.

@@ -1,5 +1,6 @@
 //! The month entries of a telegram.
 ghost use Rattle.std.specs.Prelude.{◌≡◌, ◌+◌, ◌-◌, ◌*◌, ◌≤◌, ◌<◌, ◌++◌, length, reverse, take, drop};
+ghost use Rattle.metering_model.specs.Limits.{max_months};
 ghost use Rattle.arrayvec.specs.ArrayVec.{array_vec_len};
 ghost use Rattle.telegram_model.specs.Telegram.{records_from};
 ghost use Rattle.billing_memory.specs.Entries.{entries_view};
@@ -16,7 +17,7 @@ const ENTRIES: usize = 8;
 /// Appends the entries of telegram `k`, from 1 on: eight at most, behind the `8 * (k - 1)` newest.
 pub(crate) fn push_months(body: &mut ArrayVec<u8, ROOM>, c: &Config, months: &[Entry], k: u8)
     requires room { array_vec_len body.old + 152 ≤ 252 }
-    requires few { length months.now ≤ 24 }
+    requires few { length months.now ≤ max_months }
     requires first { 1 ≤ k }
     requires there { 8 * (k - 1) ≤ length months.now }
     ensures items { body.new.items ≡ body.old.items

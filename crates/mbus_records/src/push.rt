@@ -1,5 +1,5 @@
 //! Data records of a telegram, appended to its body.
-ghost use Rattle.std.specs.Prelude.{◌≡◌, ◌+◌, ◌*◌, ◌/◌, ◌%◌, ◌≤◌, ◌<◌, ◌++◌, length};
+ghost use Rattle.std.specs.Prelude.{◌≡◌, ◌+◌, ◌*◌, ◌/◌, ◌%◌, ◌≤◌, ◌<◌, ◌++◌, ◌∷◌};
 ghost use Rattle.arrayvec.specs.ArrayVec.{array_vec_len};
 ghost use Rattle.telegram_model.specs.Telegram.{date_record, energy_record, entry_records, volume_record};
 ghost use Rattle.telegram_model.specs.Telegram as model;
@@ -10,6 +10,7 @@ ghost use Rattle.meter_config.specs.Views.{config_view};
 
 use arrayvec::ArrayVec;
 use billing_memory::{Day, Entry};
+use byte_lists::append;
 use energy_register::Register;
 use meter_config::Config;
 
@@ -30,15 +31,6 @@ const CUBIC_METRES: u8 = 0x16;
 
 const DAY: u8 = 0x6C;
 
-/// Appends bytes.
-pub(crate) fn push_bytes(body: &mut ArrayVec<u8, ROOM>, bytes: &[u8])
-    requires { array_vec_len body.old + length bytes.now ≤ 252 }
-    ensures items { body.new.items ≡ body.old.items ++ bytes.now }
-    ensures len { array_vec_len body.new ≡ array_vec_len body.old + length bytes.now }
-{
-    body.try_extend_from_slice(bytes).unwrap();
-}
-
 /// Appends the energy that a register shows, with a storage number.
 pub(crate) fn push_energy(
     body: &mut ArrayVec<u8, ROOM>,
@@ -50,12 +42,8 @@ pub(crate) fn push_energy(
     ensures items { body.new.items ≡ body.old.items ++ energy_record (config_view c.now) storage (register_view register.now) }
     ensures len { array_vec_len body.new ≤ array_vec_len body.old + 7 }
 {
-    push_information(body, DIGITS, storage);
-    body.push(KILOWATT_HOURS - c.energy_decimals);
-    push_bytes(
-        body,
-        &decimal_bytes(register.energy_digits(c.energy_decimals)),
-    );
+    let digits = register.energy_digits(c.energy_decimals);
+    push_digits(body, KILOWATT_HOURS - c.energy_decimals, storage, digits);
 }
 
 /// Appends the volume that a register shows, with a storage number.
@@ -69,12 +57,19 @@ pub(crate) fn push_volume(
     ensures items { body.new.items ≡ body.old.items ++ volume_record (config_view c.now) storage (register_view register.now) }
     ensures len { array_vec_len body.new ≤ array_vec_len body.old + 7 }
 {
+    let digits = register.volume_digits(c.per_pulse, c.volume_decimals);
+    push_digits(body, CUBIC_METRES - c.volume_decimals, storage, digits);
+}
+
+// Appends the last eight digits of a number, under a value information field and with a storage number.
+fn push_digits(body: &mut ArrayVec<u8, ROOM>, unit: u8, storage: u8, digits: u32)
+    requires { array_vec_len body.old + 7 ≤ 252 }
+    ensures items { body.new.items ≡ body.old.items ++ (values.information 12 storage ++ unit ∷ values.decimal_bytes digits) }
+    ensures len { array_vec_len body.new ≤ array_vec_len body.old + 7 }
+{
     push_information(body, DIGITS, storage);
-    body.push(CUBIC_METRES - c.volume_decimals);
-    push_bytes(
-        body,
-        &decimal_bytes(register.volume_digits(c.per_pulse, c.volume_decimals)),
-    );
+    body.push(unit);
+    append(body, &decimal_bytes(digits));
 }
 
 /// Appends a day, with a storage number.
@@ -85,7 +80,7 @@ pub(crate) fn push_date(body: &mut ArrayVec<u8, ROOM>, storage: u8, day: Day)
 {
     push_information(body, DATE, storage);
     body.push(DAY);
-    push_bytes(body, &date_bytes(day));
+    append(body, &date_bytes(day));
 }
 
 /// Appends a temperature or a difference of two, in microdegrees, under a value information field.
@@ -96,7 +91,7 @@ pub(crate) fn push_temp(body: &mut ArrayVec<u8, ROOM>, unit: u8, microdegrees: i
 {
     body.push(INTEGER);
     body.push(unit);
-    push_bytes(body, &microdegrees.div_euclid(1_000).to_le_bytes());
+    append(body, &microdegrees.div_euclid(1_000).to_le_bytes());
 }
 
 /// Appends the day of an entry and what its register showed, with a storage number.

@@ -1,6 +1,7 @@
 //! The temperatures of a telegram.
 ghost use Rattle.std.specs.Prelude.{◌≡◌, ◌+◌, ◌≤◌, ◌++◌};
 ghost use Rattle.std.specs.Option.{ForSome};
+ghost use Rattle.platinum_model.specs.Element.{max_udeg};
 ghost use Rattle.arrayvec.specs.ArrayVec.{array_vec_len};
 ghost use Rattle.config_model.specs.Configuration.{flow_element, return_element};
 ghost use Rattle.telegram_model.specs.Telegram.{difference, one_temp, sample_records, temp_of, temp_records};
@@ -11,6 +12,7 @@ use crate::push::{ROOM, push_temp};
 use arrayvec::ArrayVec;
 use meter_config::Config;
 use pt_curve::Curve;
+use sensor_pair::Pair;
 
 // Value information fields (EN 13757-3): temperatures in thousandths of a degree.
 const FLOW_TEMP: u8 = 0x58;
@@ -26,7 +28,7 @@ pub(crate) fn push_samples(body: &mut ArrayVec<u8, ROOM>, c: &Config, samples: O
     ensures len { array_vec_len body.new ≤ array_vec_len body.old + 18 }
 {
     if let Some((flow, ret)) = samples {
-        let pair = c.pair();
+        let pair = Pair::of(c.sensor, c.cal);
         push_temps(
             body,
             whole_temp(&pair.flow, flow),
@@ -38,15 +40,15 @@ pub(crate) fn push_samples(body: &mut ArrayVec<u8, ROOM>, c: &Config, samples: O
 // The whole temperature of a sample in range, in microdegrees.
 fn whole_temp(curve: &Curve, sample: u32) -> Option<u32>
     ensures value { result ≡ temp_of (element curve.now) sample }
-    ensures range { ForSome result (λ t. t ≤ 180000000) }
+    ensures range { ForSome result (λ t. t ≤ max_udeg) }
 {
     curve.whole_temp(sample)
 }
 
 fn push_temps(body: &mut ArrayVec<u8, ROOM>, flow: Option<u32>, ret: Option<u32>)
     requires room { array_vec_len body.old + 18 ≤ 252 }
-    requires flow { ForSome flow (λ t. t ≤ 180000000) }
-    requires ret { ForSome ret (λ t. t ≤ 180000000) }
+    requires flow { ForSome flow (λ t. t ≤ max_udeg) }
+    requires ret { ForSome ret (λ t. t ≤ max_udeg) }
     ensures items { body.new.items ≡ body.old.items ++ temp_records flow ret }
     ensures len { array_vec_len body.new ≤ array_vec_len body.old + 18 }
 {
@@ -57,7 +59,7 @@ fn push_temps(body: &mut ArrayVec<u8, ROOM>, flow: Option<u32>, ret: Option<u32>
 
 fn push_one_temp(body: &mut ArrayVec<u8, ROOM>, unit: u8, temp: Option<u32>)
     requires room { array_vec_len body.old + 6 ≤ 252 }
-    requires range { ForSome temp (λ t. t ≤ 180000000) }
+    requires range { ForSome temp (λ t. t ≤ max_udeg) }
     ensures items { body.new.items ≡ body.old.items ++ one_temp unit temp }
     ensures len { array_vec_len body.new ≤ array_vec_len body.old + 6 }
 {
@@ -68,8 +70,8 @@ fn push_one_temp(body: &mut ArrayVec<u8, ROOM>, unit: u8, temp: Option<u32>)
 
 fn push_difference(body: &mut ArrayVec<u8, ROOM>, flow: Option<u32>, ret: Option<u32>)
     requires room { array_vec_len body.old + 6 ≤ 252 }
-    requires flow { ForSome flow (λ t. t ≤ 180000000) }
-    requires ret { ForSome ret (λ t. t ≤ 180000000) }
+    requires flow { ForSome flow (λ t. t ≤ max_udeg) }
+    requires ret { ForSome ret (λ t. t ≤ max_udeg) }
     ensures items { body.new.items ≡ body.old.items ++ difference flow ret }
     ensures len { array_vec_len body.new ≤ array_vec_len body.old + 6 }
 {

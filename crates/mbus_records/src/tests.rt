@@ -4,7 +4,7 @@ use billing_memory::{MeterRecord, day_of};
 use energy_register::{PulsesFull, Register, Step};
 use mbus_link::{Frame, parse, write};
 use meter_config::Config;
-use sensor_pair::Place;
+use meter_parts::Place;
 use std::test::Fail;
 
 // A reset and requests to address 1, as bytes on the bus, and an acknowledgement.

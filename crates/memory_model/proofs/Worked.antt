@@ -1,11 +1,11 @@
 -- Memories that are read, worked by hand: the standard configuration, the record of a new meter, a record with samples, a
 -- negative energy, a set day and two months, and some with one wrong byte.
-use Rattle.std.specs.Prelude.{◌≡◌, ℕ, List, [], ◌∷◌, ◌++◌, replicate, slice_set, pos, negsuc, None, Some, Ok, Err, refl}
-use Rattle.heat_model.specs.Heat.{Return}
+use Rattle.std.specs.Prelude.{◌≡◌, ℕ, List, [], ◌∷◌, ◌++◌, replicate, slice_set, pos, negsuc, Some, Ok, Err, refl}
 use Rattle.calendar_model.specs.Entries.{MonthEntry}
 use Rattle.calendar_model.proofs.Worked.{is_first_february, is_first_march, not_first, begun_february, begun_start_of_march, begun_march}
 use Rattle.platinum_model.specs.Element.{nominal}
 use Rattle.config_model.specs.Configuration.{Configuration}
+use Rattle.config_model.specs.Standard.{standard}
 use Rattle.metering_model.specs.Records.{MeterRecord, Register, opening_record}
 use Rattle.memory_model.specs.Fields.{number, zero_bytes}
 use Rattle.memory_model.specs.Header.{header_fields, header_in, configuration_of, constants_of}
@@ -160,23 +160,6 @@ standard_text =
 -- the header's 256 bytes with one byte in place of another
 abbrev header_with : (at byte : ℕ) → List ℕ
 header_with at byte = slice_set (standard_text ++ replicate 232 0) at byte
-
-abbrev pub standard : Configuration
-standard = record {
-  serial = 12345678;
-  maker = 65 ∷ 66 ∷ 67 ∷ [];
-  version = 1;
-  address = 1;
-  place = Return;
-  pressure_kpa = 1600;
-  sensor_ohm = 500;
-  litres_per_pulse = 10;
-  energy_decimals = 0;
-  volume_decimals = 2;
-  set_month = 1;
-  opening_day = 8780;
-  calibration = None;
-}
 
 standard_header : header_in (standard_text ++ replicate 232 0) ≡ Ok standard
 unfolding header_in header_fields configuration_of constants_of number zero_bytes

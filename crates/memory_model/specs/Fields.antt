@@ -1,10 +1,7 @@
 -- Fields of a memory, and the rules that they keep.
-use Rattle.std.specs.Prelude.{ℕ, ◌+◌, ◌*◌, ◌<◌, ◌==◌, ℤ, Bool, true, if◌then◌else◌, List, [], ◌∷◌, take, drop, map, Option, None, Some, Result, Ok, Err}
+use Rattle.std.specs.Prelude.{ℕ, ◌+◌, ◌*◌, ◌==◌, ℤ, Bool, true, if◌then◌else◌, List, [], ◌∷◌, take, drop, map, Option, None, Some, Result, Ok, Err}
 use Rattle.std.specs.Int.{w128, cast_signed}
-use Rattle.std.specs.List.{All, list_all, range_with_len}
-
-abbrev pub AreBytes : List ℕ → Type 0
-AreBytes bytes = All (λ b. b < 256) bytes
+use Rattle.std.specs.List.{list_all, range_with_len}
 
 -- the bytes of a part, by its offset and its size
 abbrev pub part : (at size : ℕ) → List ℕ → List ℕ

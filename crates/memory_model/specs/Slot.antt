@@ -1,29 +1,28 @@
 -- A slot of 1,280 bytes, which holds a record. Offsets are within the slot.
-use Rattle.std.specs.Prelude.{ℕ, zero, suc, ◌+◌, ◌*◌, ◌==◌, ◌&&◌, ◌||◌, Bool, true, nat_le, nat_lt, nat_abs, if◌then◌else◌, List, [], ◌∷◌, ◌++◌, map, length, Option, None, Some, Result}
+use Rattle.std.specs.Prelude.{ℕ, zero, suc, ◌+◌, ◌*◌, ◌==◌, ◌&&◌, ◌||◌, Bool, true, nat_le, nat_lt, if◌then◌else◌, List, [], ◌∷◌, ◌++◌, map, length, Option, None, Some, Result}
 use Rattle.std.specs.List.{range_with_len}
-use Rattle.calendar_model.specs.Calendar.{is_first_day, months_to}
+use Rattle.calendar_model.specs.Calendar.{is_day, is_first_day, months_to}
 use Rattle.calendar_model.specs.Entries.{MonthEntry}
+use Rattle.metering_model.specs.Limits.{is_bound_of, is_energy_of, max_events, max_months, max_pulses}
 use Rattle.metering_model.specs.Records.{MeterRecord, Register}
 use Rattle.memory_model.specs.Fields.{Field, any, field, field_among, value, blank, part, signed, are_zero, keep_all, first_broken, unless_broken}
 
--- energy in two's complement, at most 2 * 10^12 mJ for each pulse either way
-abbrev pub is_energy_of : (pulses energy : ℕ) → Bool
-is_energy_of pulses energy = nat_le (nat_abs (signed energy)) (2000000000000 * pulses)
-
--- at most 2 * 10^6 mJ for each pulse
-abbrev pub is_bound_of : (pulses bound : ℕ) → Bool
-is_bound_of pulses bound = nat_le bound (2000000 * pulses)
+abbrev pub slot_size : ℕ
+slot_size = 1280
 
 -- ---- an entry of 48 bytes, with offsets within it
 
+abbrev pub entry_size : ℕ
+entry_size = 48
+
 abbrev pub entry_day_field : Field
-entry_day_field = field 0 2 (λ n. nat_le n 36524 && is_first_day n)
+entry_day_field = field 0 2 (λ n. is_day n && is_first_day n)
 
 abbrev pub entry_pulses_field : Field
 entry_pulses_field = field 8 8 any
 
 abbrev pub entry_energy_field : Field
-entry_energy_field = field_among 16 16 (λ n entry. is_energy_of (value entry_pulses_field entry) n)
+entry_energy_field = field_among 16 16 (λ n entry. is_energy_of (value entry_pulses_field entry) (signed n))
 
 abbrev pub entry_bound_field : Field
 entry_bound_field = field_among 32 16 (λ n entry. is_bound_of (value entry_pulses_field entry) n)
@@ -48,17 +47,17 @@ entry_of entry = record {
 -- ---- the record
 
 abbrev pub seq_field : Field
-seq_field = field 0 8 (λ n. nat_le n 1000000000000000000)
+seq_field = field 0 8 (λ n. nat_le n max_events)
 
 abbrev pub day_field : Field
-day_field = field 8 2 (λ n. nat_le n 36524)
+day_field = field 8 2 is_day
 
 -- 1 where samples are in force
 abbrev pub samples_field : Field
 samples_field = field 10 1 (λ n. nat_le n 1)
 
 abbrev pub month_count_field : Field
-month_count_field = field 11 1 (λ n. nat_le n 24)
+month_count_field = field 11 1 (λ n. nat_le n max_months)
 
 -- 1 where an entry of the set day is kept
 abbrev pub set_day_kept_field : Field
@@ -71,13 +70,13 @@ abbrev pub return_sample_field : Field
 return_sample_field = field_among 20 4 (λ n bytes. (value samples_field bytes == 1) || (n == 0))
 
 abbrev pub faulty_field : Field
-faulty_field = field 24 8 (λ n. nat_le n 1000000000000000)
+faulty_field = field 24 8 (λ n. nat_le n max_pulses)
 
 abbrev pub pulses_field : Field
-pulses_field = field_among 32 8 (λ n bytes. nat_le n 1000000000000000 && nat_le (value faulty_field bytes) n)
+pulses_field = field_among 32 8 (λ n bytes. nat_le n max_pulses && nat_le (value faulty_field bytes) n)
 
 abbrev pub energy_field : Field
-energy_field = field_among 40 16 (λ n bytes. is_energy_of (value pulses_field bytes) n)
+energy_field = field_among 40 16 (λ n bytes. is_energy_of (value pulses_field bytes) (signed n))
 
 abbrev pub bound_field : Field
 bound_field = field_among 56 16 (λ n bytes. is_bound_of (value pulses_field bytes) n)
@@ -85,19 +84,19 @@ bound_field = field_among 56 16 (λ n bytes. is_bound_of (value pulses_field byt
 -- the entry of the set day, whose day is not after the record's, or zeros where none is kept
 unfoldable pub set_day_keeps : List ℕ → Bool
 set_day_keeps bytes =
-    if value set_day_kept_field bytes == 1 then is_entry (value pulses_field bytes) (part 72 48 bytes) && nat_le (entry_of (part 72 48 bytes)).day (value day_field bytes)
-    else are_zero (part 72 48 bytes)
+    if value set_day_kept_field bytes == 1 then is_entry (value pulses_field bytes) (part 72 entry_size bytes) && nat_le (entry_of (part 72 entry_size bytes)).day (value day_field bytes)
+    else are_zero (part 72 entry_size bytes)
 
 abbrev pub set_day_field : Field
-set_day_field = record { at = 72; size = 48; keeps = set_day_keeps }
+set_day_field = record { at = 72; size = entry_size; keeps = set_day_keeps }
 
 -- ---- the 24 month entries, oldest first
 
 abbrev pub month_place : ℕ → ℕ
-month_place k = 120 + 48 * k
+month_place k = 120 + entry_size * k
 
 abbrev pub month_part : ℕ → List ℕ → List ℕ
-month_part k bytes = part (month_place k) 48 bytes
+month_part k bytes = part (month_place k) entry_size bytes
 
 abbrev pub month_entry : ℕ → List ℕ → MonthEntry Register
 month_entry k bytes = entry_of (month_part k bytes)
@@ -128,7 +127,7 @@ month_keeps k bytes =
     else are_zero (month_part k bytes)
 
 abbrev pub month_field : ℕ → Field
-month_field k = record { at = month_place k; size = 48; keeps = month_keeps k }
+month_field k = record { at = month_place k; size = entry_size; keeps = month_keeps k }
 
 unfoldable pub month_fields : (from count : ℕ) → List Field
 month_fields from count = map month_field (range_with_len from count)
@@ -151,7 +150,7 @@ record_fields =
     ∷ energy_field
     ∷ bound_field
     ∷ set_day_field
-    ∷ month_fields 0 24
+    ∷ month_fields 0 max_months
     ++ blank 1272 8
     ∷ []
 
@@ -160,7 +159,7 @@ samples_of bytes =
     if value samples_field bytes == 1 then Some (value flow_sample_field bytes, value return_sample_field bytes) else None
 
 unfoldable pub set_day_of : List ℕ → Option (MonthEntry Register)
-set_day_of bytes = if value set_day_kept_field bytes == 1 then Some (entry_of (part 72 48 bytes)) else None
+set_day_of bytes = if value set_day_kept_field bytes == 1 then Some (entry_of (part 72 entry_size bytes)) else None
 
 unfoldable pub months_of : List ℕ → List (MonthEntry Register)
 months_of bytes = map (λ k. month_entry k bytes) (range_with_len 0 (value month_count_field bytes))

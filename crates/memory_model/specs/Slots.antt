@@ -3,8 +3,8 @@ use Rattle.std.specs.Prelude.{ℕ, ◌+◌, ◌==◌, List, slice_index, if◌th
 use Rattle.config_model.specs.Configuration.{Configuration}
 use Rattle.metering_model.specs.Records.{MeterRecord}
 use Rattle.memory_model.specs.Fields.{part}
-use Rattle.memory_model.specs.Header.{header_in}
-use Rattle.memory_model.specs.Slot.{record_in}
+use Rattle.memory_model.specs.Header.{header_in, header_size}
+use Rattle.memory_model.specs.Slot.{record_in, slot_size}
 use Rattle.memory_model.specs.Stored.{Side, A, B, chosen, mark, slot_at}
 
 -- nothing, as the first byte is not the mark; a field of the header that breaks its rule, with its offset; or the side that
@@ -21,7 +21,7 @@ events_or_place side (Err at) = Err (slot_at side + at)
 
 -- what stands in the slot of a side
 abbrev pub events_on : Side → List ℕ → Result ℕ ℕ
-events_on side memory = events_or_place side (record_in (part (slot_at side) 1280 memory))
+events_on side memory = events_or_place side (record_in (part (slot_at side) slot_size memory))
 
 abbrev pub slots_or_place : Result Configuration ℕ → Side → (a b : Result ℕ ℕ) → Look
 slots_or_place (Ok c) gate a b = Slots gate a b
@@ -33,4 +33,4 @@ look_from first header gate a b = if first == mark then slots_or_place header ga
 
 abbrev pub look : List ℕ → Look
 look memory =
-    look_from (slice_index memory 0) (header_in (part 0 256 memory)) (chosen memory) (events_on A memory) (events_on B memory)
+    look_from (slice_index memory 0) (header_in (part 0 header_size memory)) (chosen memory) (events_on A memory) (events_on B memory)

@@ -3,8 +3,8 @@ use Rattle.std.specs.Prelude.{ℕ, ◌+◌, ◌%◌, ◌==◌, List, slice_index
 use Rattle.config_model.specs.Configuration.{Configuration}
 use Rattle.metering_model.specs.Records.{MeterRecord}
 use Rattle.memory_model.specs.Fields.{part}
-use Rattle.memory_model.specs.Header.{header_in}
-use Rattle.memory_model.specs.Slot.{record_in}
+use Rattle.memory_model.specs.Header.{header_in, header_size}
+use Rattle.memory_model.specs.Slot.{record_in, slot_size}
 
 -- of the two slots the one that holds the record in force
 pub data Side : Type 0 where
@@ -46,7 +46,7 @@ stored_from first header side slot = if first == mark then with_header header si
 
 abbrev pub stored_on : Side → List ℕ → Stored
 stored_on side memory =
-    stored_from (slice_index memory 0) (header_in (part 0 256 memory)) side (record_in (part (slot_at side) 1280 memory))
+    stored_from (slice_index memory 0) (header_in (part 0 header_size memory)) side (record_in (part (slot_at side) slot_size memory))
 
 abbrev pub stored : List ℕ → Stored
 stored memory = stored_on (chosen memory) memory

@@ -1,7 +1,9 @@
 -- A fault comes only where a count of faults rose.
-use Rattle.std.specs.Prelude.{ℕ, ◌+◌, ◌-◌, ◌^◌, ◌≤◌, min, Result, OnErr, IsErrOf}
+use Rattle.std.specs.Prelude.{ℕ, ◌+◌, ◌-◌, ◌^◌, ◌≤◌, min, Result, OnErr, IfErr}
+use Rattle.meter_board.specs.declared.fault_counts.FaultCounts.{FaultCounts}
 use Rattle.meter_board.specs.declared.refusal.Refusal.{Refusal}
 use Rattle.meter_board.specs.declared.refusal.Refusal.TheVariants as refusals
+use Rattle.meter_board.specs.declared.source.Failed.{Failed}
 
 -- a count after one more; it stands still at the end of its type
 abbrev pub one_more : ℕ → ℕ
@@ -16,9 +18,25 @@ pub record HasCause {T E : Type 0} (before now : ℕ) (result : Result T E) : Ty
   pub later : before ≤ now
   pub failed : OnErr result (Rose before now)
 
--- neither count falls, of faults and of cuts, and the one rose that the refusal is of
-pub record HasCauses {T : Type 0} (faults faults' cuts cuts' : ℕ) (result : Result T Refusal) : Type 0 where
-  pub later_faults : faults ≤ faults'
-  pub later_cuts : cuts ≤ cuts'
-  pub failed : IsErrOf result refusals.Failed → Rose faults faults'
-  pub cut : IsErrOf result refusals.Cut → Rose cuts cuts'
+-- no count falls
+pub record OnlyRises (before now : FaultCounts) : Type 0 where
+  pub memory : before.memory ≤ now.memory
+  pub output : before.output ≤ now.output
+  pub cuts : before.cuts ≤ now.cuts
+
+-- no count falls, and where the call failed the one rose that its error is of
+pub record CausedBy {T E : Type 0} (Cause : E → FaultCounts → FaultCounts → Type 0) (before now : FaultCounts) (result : Result T E) : Type 0 where
+  pub later : OnlyRises before now
+  pub failed : IfErr result (λ e. Cause e before now)
+
+-- the count that the failure of a call on the memory is of, and of a put
+abbrev pub MemoryCause : Failed → FaultCounts → FaultCounts → Type 0
+MemoryCause failed before now = Rose before.memory now.memory
+
+abbrev pub OutputCause : Failed → FaultCounts → FaultCounts → Type 0
+OutputCause failed before now = Rose before.output now.output
+
+-- the count that a refusal is of
+abbrev pub RefusalCause : Refusal → FaultCounts → FaultCounts → Type 0
+RefusalCause refusals.Failed before now = Rose before.memory now.memory
+RefusalCause refusals.Cut before now = Rose before.cuts now.cuts

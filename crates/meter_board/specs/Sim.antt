@@ -1,7 +1,10 @@
 -- What a contract sees of a board in memory.
-use Rattle.std.specs.Prelude.{◌≡◌, ℕ, ◌+◌, ◌-◌, ◌/◌, ◌^◌, Bool, true, false, List, Any, length, take, min, Result, Ok, Err}
+use Rattle.std.specs.Prelude.{◌≡◌, ℕ, ◌+◌, ◌-◌, ◌/◌, ◌^◌, List, Any, length, take, min, Result, Ok, Err}
+use Rattle.trace_model.specs.Images.{memory_size}
 use Rattle.trace_model.specs.Trace.{Entry, Store, Sync, Missed, Put, Arm, Cut, Trace, ◌▷◌}
 use Rattle.meter_board.specs.declared.arm.Armed.{Armed}
+use Rattle.meter_board.specs.declared.call_counts.CallCounts.{CallCounts}
+use Rattle.meter_board.specs.declared.fault_counts.FaultCounts.{FaultCounts}
 use Rattle.meter_board.specs.declared.refusal.Refusal.{Refusal}
 use Rattle.meter_board.specs.declared.refusal.Refusal.TheVariants as refusals
 use Rattle.meter_board.specs.declared.sim_board.Call.{Call}
@@ -19,38 +22,17 @@ sim_trace b = history_trace b.history
 abbrev pub sim_reads : SimBoard → List ℕ
 sim_reads b = b.memory.items
 
-abbrev pub sim_memory_faults : SimBoard → ℕ
-sim_memory_faults b = b.memory_faults
-
-abbrev pub sim_output_faults : SimBoard → ℕ
-sim_output_faults b = b.output_faults
-
--- how many calls were cut
-abbrev pub sim_cuts : SimBoard → ℕ
-sim_cuts b = b.cuts
+-- how many calls on the memory and how many puts failed, and how many were cut
+abbrev pub sim_faults : SimBoard → FaultCounts
+sim_faults b = b.faults
 
 -- how many calls there were of each kind
-abbrev pub sim_loads : SimBoard → ℕ
-sim_loads b = b.loads
+abbrev pub sim_calls : SimBoard → CallCounts
+sim_calls b = b.calls
 
-abbrev pub sim_stores : SimBoard → ℕ
-sim_stores b = b.stores
-
-abbrev pub sim_syncs : SimBoard → ℕ
-sim_syncs b = b.syncs
-
-abbrev pub sim_puts : SimBoard → ℕ
-sim_puts b = b.puts
-
-abbrev pub sim_arms : SimBoard → ℕ
-sim_arms b = b.arms
-
-abbrev pub sim_powers : SimBoard → ℕ
-sim_powers b = b.powers
-
--- how many there were on the memory, up to the end of the count's type
+-- how many of them were on the memory, up to the end of the count's type
 abbrev pub sim_memory_calls : SimBoard → ℕ
-sim_memory_calls b = min (sim_loads b + sim_stores b + sim_syncs b + sim_arms b + sim_powers b) (2 ^ 64 - 1)
+sim_memory_calls b = min ((sim_calls b).loads + (sim_calls b).stores + (sim_calls b).syncs + (sim_calls b).arms + (sim_calls b).powers) (2 ^ 64 - 1)
 
 -- the cut that waits for its call
 abbrev pub sim_armed : SimBoard → Armed
@@ -85,19 +67,19 @@ IsFailing b k number = Any (λ (call : Call). (call.kind ≡ k) × (call.number 
 
 -- the next call of each kind is one that fails
 abbrev pub FailsLoad : SimBoard → Type 0
-FailsLoad b = IsFailing b kind.Load (one_more (sim_loads b))
+FailsLoad b = IsFailing b kind.Load (one_more (sim_calls b).loads)
 
 abbrev pub FailsStore : SimBoard → Type 0
-FailsStore b = IsFailing b kind.Store (one_more (sim_stores b))
+FailsStore b = IsFailing b kind.Store (one_more (sim_calls b).stores)
 
 abbrev pub FailsSync : SimBoard → Type 0
-FailsSync b = IsFailing b kind.Sync (one_more (sim_syncs b))
+FailsSync b = IsFailing b kind.Sync (one_more (sim_calls b).syncs)
 
 abbrev pub FailsPut : SimBoard → Type 0
-FailsPut b = IsFailing b kind.Put (one_more (sim_puts b))
+FailsPut b = IsFailing b kind.Put (one_more (sim_calls b).puts)
 
 abbrev pub FailsPower : SimBoard → Type 0
-FailsPower b = IsFailing b kind.Power (one_more (sim_powers b))
+FailsPower b = IsFailing b kind.Power (one_more (sim_calls b).powers)
 
 -- the next call of `store` or `sync` is cut, where it does not fail
 abbrev pub IsDue : SimBoard → Type 0
@@ -107,17 +89,21 @@ IsDue b = (sim_armed b).calls ≡ 1
 abbrev pub counted : Armed → Armed
 counted a = record a { calls = a.calls - 1 }
 
--- the memory failed
-abbrev pub has_failed : {T : Type 0} → Result T Refusal → Bool
-has_failed (Ok x) = false
-has_failed (Err refusals.Failed) = true
-has_failed (Err refusals.Cut) = false
+-- the counts after a call on the memory that failed, after a put that failed, and after a call on the memory that was cut
+abbrev pub memory_fault : FaultCounts → FaultCounts
+memory_fault counts = record counts { memory = one_more counts.memory }
 
--- the power was cut
-abbrev pub was_cut : {T : Type 0} → Result T Refusal → Bool
-was_cut (Ok x) = false
-was_cut (Err refusals.Failed) = false
-was_cut (Err refusals.Cut) = true
+abbrev pub output_fault : FaultCounts → FaultCounts
+output_fault counts = record counts { output = one_more counts.output }
+
+abbrev pub one_cut : FaultCounts → FaultCounts
+one_cut counts = record counts { cuts = one_more counts.cuts }
+
+-- and after a call that writes, by what it answered
+abbrev pub after_refusal : {T : Type 0} → Result T Refusal → FaultCounts → FaultCounts
+after_refusal (Ok x) counts = counts
+after_refusal (Err refusals.Failed) counts = memory_fault counts
+after_refusal (Err refusals.Cut) counts = one_cut counts
 
 -- a call that adds this entry succeeds: the entry fits, and the call is not one that fails
 pub record Adds (b : SimBoard) (e : Entry) (fails : Type 0) : Type 0 where
@@ -126,12 +112,12 @@ pub record Adds (b : SimBoard) (e : Entry) (fails : Type 0) : Type 0 where
 
 -- the power is cut, which adds one entry: an image fits, and the call is not one that fails
 pub record AddsCut (b : SimBoard) (fails : Type 0) : Type 0 where
-  pub room : HistoryHasRoom b.history 16384
+  pub room : HistoryHasRoom b.history memory_size
   pub whole : fails → ⊥
 
 -- the power is cut within a store of these bytes: both entries fit, and the call is not one that fails
 pub record AddsCutStore (b : SimBoard) (bytes : List ℕ) (fails : Type 0) : Type 0 where
-  pub room : HistoryHasRoomForTwo b.history (length bytes + 16384)
+  pub room : HistoryHasRoomForTwo b.history (length bytes + memory_size)
   pub whole : fails → ⊥
 
 -- the trace after a call that failed: where the call is one that fails it added this entry, where there was room for it
@@ -154,15 +140,8 @@ pub record RoomsAsBefore (old new : SimBoard) : Type 0 where
 pub record BoardAsBefore (old new : SimBoard) : Type 0 where
   pub trace : sim_trace new ≡ sim_trace old
   pub reads : sim_reads new ≡ sim_reads old
-  pub memory_faults : sim_memory_faults new ≡ sim_memory_faults old
-  pub output_faults : sim_output_faults new ≡ sim_output_faults old
-  pub cuts : sim_cuts new ≡ sim_cuts old
-  pub loads : sim_loads new ≡ sim_loads old
-  pub stores : sim_stores new ≡ sim_stores old
-  pub syncs : sim_syncs new ≡ sim_syncs old
-  pub puts : sim_puts new ≡ sim_puts old
-  pub arms : sim_arms new ≡ sim_arms old
-  pub powers : sim_powers new ≡ sim_powers old
+  pub faults : sim_faults new ≡ sim_faults old
+  pub calls : sim_calls new ≡ sim_calls old
   pub entry_room : sim_entry_room new ≡ sim_entry_room old
   pub byte_room : sim_byte_room new ≡ sim_byte_room old
 

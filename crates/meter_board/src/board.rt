@@ -1,7 +1,8 @@
 ghost use Rattle.std.specs.Prelude.{◌≡◌, ℕ, ◌+◌, ◌<◌, ◌≤◌, List, length, take, drop, OnOk};
 ghost use Rattle.trace_model.specs.Trace.{Trace, base_of};
-ghost use Rattle.trace_model.specs.Images.{IsImage};
-ghost use Rattle.meter_board.specs.Causes.{HasCause, HasCauses, one_more};
+ghost use Rattle.trace_model.specs.Images.{IsImage, memory_size};
+ghost use Rattle.meter_board.specs.declared.fault_counts.FaultCounts.{FaultCounts};
+ghost use Rattle.meter_board.specs.Causes.{CausedBy, MemoryCause, OutputCause, RefusalCause, one_more};
 ghost use Rattle.meter_board.specs.Puts.{PutGives};
 ghost use Rattle.meter_board.specs.Stores.{ArmGives, PowerGives, StoreGives, SyncGives};
 
@@ -22,28 +23,21 @@ pub trait Board {
     /// How many calls on the memory were made, those that failed or were cut too, up to 2^64 - 1. Every board tells it.
     ghost memory_calls: { Self → ℕ };
 
-    /// How many calls on the memory have failed, up to 2^64 - 1.
-    ghost memory_faults: { Self → ℕ };
-
-    /// How many puts have failed, up to 2^64 - 1.
-    ghost output_faults: { Self → ℕ };
-
-    /// How many calls on the memory were cut by a power failure, up to 2^64 - 1. A call of [`Board::power`] is none of these.
-    ghost cuts: { Self → ℕ };
+    /// How many calls on the memory and how many puts have failed, and how many calls on the memory were cut. Every board
+    /// tells it.
+    ghost faults: { Self → FaultCounts };
 
     /// Reads the bytes of the memory from `at` on into `into`.
     ///
     /// # Errors
     /// [`Failed`] where the memory failed: the count of memory faults rose, and `into` may hold anything.
     fn load(&mut self, at: u32, into: &mut [u8]) -> Result<(), Failed>
-        requires { at + length into.old ≤ 16384 }
+        requires { at + length into.old ≤ memory_size }
         ensures memory_calls { memory_calls self.new ≡ one_more (memory_calls self.old) }
         ensures bytes { tells → OnOk result (into.new ≡ take (length into.old) (drop at (reads self.old))) }
         ensures trace { tells → trace self.new ≡ trace self.old }
         ensures reads { tells → reads self.new ≡ reads self.old }
-        ensures cause { HasCause (memory_faults self.old) (memory_faults self.new) result }
-        ensures output_faults { output_faults self.old ≤ output_faults self.new }
-        ensures cuts { cuts self.old ≤ cuts self.new };
+        ensures cause { CausedBy MemoryCause (faults self.old) (faults self.new) result };
 
     /// Stores these bytes in the memory from `at` on. They are settled by the next [`Board::sync`].
     ///
@@ -51,11 +45,10 @@ pub trait Board {
     /// [`Refusal::Failed`] where the memory failed: nothing was stored, or any bytes stand in the range now, and
     /// the count of memory faults rose. [`Refusal::Cut`] where the power failed, and the count of cuts rose.
     fn store(&mut self, at: u32, bytes: &[u8]) -> Result<(), Refusal>
-        requires { at + length bytes.now ≤ 16384 }
+        requires { at + length bytes.now ≤ memory_size }
         ensures memory_calls { memory_calls self.new ≡ one_more (memory_calls self.old) }
         ensures gives { tells → StoreGives at bytes.now (trace self.old) (reads self.old) result (trace self.new) (reads self.new) }
-        ensures causes { HasCauses (memory_faults self.old) (memory_faults self.new) (cuts self.old) (cuts self.new) result }
-        ensures output_faults { output_faults self.old ≤ output_faults self.new };
+        ensures cause { CausedBy RefusalCause (faults self.old) (faults self.new) result };
 
     /// Settles all that was stored.
     ///
@@ -65,8 +58,7 @@ pub trait Board {
     fn sync(&mut self) -> Result<(), Refusal>
         ensures memory_calls { memory_calls self.new ≡ one_more (memory_calls self.old) }
         ensures gives { tells → SyncGives (trace self.old) (reads self.old) result (trace self.new) (reads self.new) }
-        ensures causes { HasCauses (memory_faults self.old) (memory_faults self.new) (cuts self.old) (cuts self.new) result }
-        ensures output_faults { output_faults self.old ≤ output_faults self.new };
+        ensures cause { CausedBy RefusalCause (faults self.old) (faults self.new) result };
 
     /// Puts these bytes out.
     ///
@@ -77,9 +69,7 @@ pub trait Board {
         ensures memory_calls { memory_calls self.new ≡ memory_calls self.old }
         ensures gives { tells → PutGives (trace self.old) bytes.now result (trace self.new) }
         ensures reads { tells → reads self.new ≡ reads self.old }
-        ensures cause { HasCause (output_faults self.old) (output_faults self.new) result }
-        ensures memory_faults { memory_faults self.old ≤ memory_faults self.new }
-        ensures cuts { cuts self.old ≤ cuts self.new };
+        ensures cause { CausedBy OutputCause (faults self.old) (faults self.new) result };
 
     /// Orders a cut of the power: within the n-th call of [`Board::store`] or [`Board::sync`] from now on, of whose
     /// range the first `keep` bytes are written then, and `fill` stands in the others. A new order takes the place of
@@ -92,9 +82,8 @@ pub trait Board {
         ensures memory_calls { memory_calls self.new ≡ one_more (memory_calls self.old) }
         ensures gives { tells → ArmGives n keep fill (trace self.old) result (trace self.new) }
         ensures reads { tells → reads self.new ≡ reads self.old }
-        ensures cause { HasCause (memory_faults self.old) (memory_faults self.new) result }
-        ensures output_faults { output_faults self.old ≤ output_faults self.new }
-        ensures cuts { cuts self.new ≡ cuts self.old };
+        ensures cause { CausedBy MemoryCause (faults self.old) (faults self.new) result }
+        ensures cuts { (faults self.new).cuts ≡ (faults self.old).cuts };
 
     /// Cuts the power now.
     ///
@@ -103,12 +92,11 @@ pub trait Board {
     fn power(&mut self) -> Result<(), Failed>
         ensures memory_calls { memory_calls self.new ≡ one_more (memory_calls self.old) }
         ensures gives { tells → PowerGives (trace self.old) (reads self.old) result (trace self.new) (reads self.new) }
-        ensures cause { HasCause (memory_faults self.old) (memory_faults self.new) result }
-        ensures output_faults { output_faults self.old ≤ output_faults self.new }
-        ensures cuts { cuts self.new ≡ cuts self.old };
+        ensures cause { CausedBy MemoryCause (faults self.old) (faults self.new) result }
+        ensures cuts { (faults self.new).cuts ≡ (faults self.old).cuts };
 
     /// The memory had its size when the board was handed in.
-    ghost whole: { (board : Self) → tells → length (base_of (trace board)) ≡ 16384 };
+    ghost whole: { (board : Self) → tells → length (base_of (trace board)) ≡ memory_size };
 
     /// What the memory reads is one of the images that are possible.
     ghost possible: { (board : Self) → tells → IsImage (trace board) (reads board) };

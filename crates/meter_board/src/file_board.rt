@@ -1,10 +1,11 @@
 //! A board over a file and standard output.
 ghost use Rattle.std.specs.Prelude.{◌≡◌, ◌+◌, ◌≤◌, length};
-ghost use Rattle.meter_board.specs.Causes.{HasCauses, one_more};
+ghost use Rattle.trace_model.specs.Images.{memory_size};
+ghost use Rattle.meter_board.specs.Causes.{CausedBy, RefusalCause, one_more};
 
 use crate::arm::{Armed, Span};
 use crate::counts::raise;
-use crate::{Board, Failed, Refusal};
+use crate::{Board, Failed, FaultCounts, Refusal};
 use arrayvec::ArrayString;
 use std::fs::{File, OpenFile, OpenOptions};
 use std::io::{ErrorKind, Read, Seek, SeekFrom, Write};
@@ -33,13 +34,11 @@ pub struct FileBoard<'a, R: Files + Print> {
     path: &'a str,
     file: Option<R::File>,
     memory_calls: u64,
-    memory_faults: u64,
-    output_faults: u64,
-    cuts: u64,
+    faults: FaultCounts,
     armed: Armed,
     // The range of the last store since the last sync or cut, an empty one where there is none.
     last: Span,
-    ghost last_fits: { last.at + last.len ≤ 16384 },
+    ghost last_fits: { last.at + last.len ≤ memory_size },
 }
 
 impl<'a, R: Files + Print> FileBoard<'a, R> {
@@ -47,18 +46,14 @@ impl<'a, R: Files + Print> FileBoard<'a, R> {
     pub fn at(rt: &'a R, path: &'a str) -> FileBoard<'a, R>
         ensures path { result.path.now ≡ path.now }
         ensures memory_calls { result.memory_calls ≡ 0 }
-        ensures memory_faults { result.memory_faults ≡ 0 }
-        ensures output_faults { result.output_faults ≡ 0 }
-        ensures cuts { result.cuts ≡ 0 }
+        ensures faults { result.faults ≡ record { memory = 0; output = 0; cuts = 0 } }
     {
         FileBoard {
             rt,
             path,
             file: None,
             memory_calls: 0,
-            memory_faults: 0,
-            output_faults: 0,
-            cuts: 0,
+            faults: FaultCounts::default(),
             armed: Armed::default(),
             last: Span::default(),
         }
@@ -67,9 +62,7 @@ impl<'a, R: Files + Print> FileBoard<'a, R> {
     // The open file for a call on the memory, which is to be given back.
     fn take_file(&mut self) -> io::Result<R::File>
         ensures memory_calls { self.new.memory_calls ≡ one_more self.old.memory_calls }
-        ensures memory_faults { self.new.memory_faults ≡ self.old.memory_faults }
-        ensures output_faults { self.new.output_faults ≡ self.old.output_faults }
-        ensures cuts { self.new.cuts ≡ self.old.cuts }
+        ensures faults { self.new.faults ≡ self.old.faults }
     {
         raise(&mut self.memory_calls);
         match self.file.take() {
@@ -80,9 +73,7 @@ impl<'a, R: Files + Print> FileBoard<'a, R> {
 
     fn read_at(&mut self, at: u32, into: &mut [u8]) -> io::Result<()>
         ensures memory_calls { self.new.memory_calls ≡ one_more self.old.memory_calls }
-        ensures memory_faults { self.new.memory_faults ≡ self.old.memory_faults }
-        ensures output_faults { self.new.output_faults ≡ self.old.output_faults }
-        ensures cuts { self.new.cuts ≡ self.old.cuts }
+        ensures faults { self.new.faults ≡ self.old.faults }
     {
         let mut file = self.take_file()?;
         let answer = read_whole(&mut file, at, into);
@@ -92,9 +83,7 @@ impl<'a, R: Files + Print> FileBoard<'a, R> {
 
     fn write_at(&mut self, at: u32, bytes: &[u8]) -> io::Result<()>
         ensures memory_calls { self.new.memory_calls ≡ one_more self.old.memory_calls }
-        ensures memory_faults { self.new.memory_faults ≡ self.old.memory_faults }
-        ensures output_faults { self.new.output_faults ≡ self.old.output_faults }
-        ensures cuts { self.new.cuts ≡ self.old.cuts }
+        ensures faults { self.new.faults ≡ self.old.faults }
     {
         let mut file = self.take_file()?;
         let answer = write_whole(&mut file, at, bytes);
@@ -104,11 +93,9 @@ impl<'a, R: Files + Print> FileBoard<'a, R> {
 
     // Writes these bytes, and the fill of the cut in so many places behind them, and settles them.
     fn tear_at(&mut self, at: u32, kept: &[u8], others: usize) -> io::Result<()>
-        requires { at + (length kept.now + others) ≤ 16384 }
+        requires { at + (length kept.now + others) ≤ memory_size }
         ensures memory_calls { self.new.memory_calls ≡ one_more self.old.memory_calls }
-        ensures memory_faults { self.new.memory_faults ≡ self.old.memory_faults }
-        ensures output_faults { self.new.output_faults ≡ self.old.output_faults }
-        ensures cuts { self.new.cuts ≡ self.old.cuts }
+        ensures faults { self.new.faults ≡ self.old.faults }
     {
         let mut file = self.take_file()?;
         let answer = tear_whole(&mut file, at, kept, others, self.armed.fill);
@@ -119,17 +106,17 @@ impl<'a, R: Files + Print> FileBoard<'a, R> {
     // What a call answers whose range was to be torn.
     fn cut(&mut self, torn: io::Result<()>) -> Result<(), Refusal>
         ensures memory_calls { self.new.memory_calls ≡ self.old.memory_calls }
-        ensures causes { HasCauses self.old.memory_faults self.new.memory_faults self.old.cuts self.new.cuts result }
-        ensures output_faults { self.new.output_faults ≡ self.old.output_faults }
+        ensures cause { CausedBy RefusalCause self.old.faults self.new.faults result }
+        ensures output { self.new.faults.output ≡ self.old.faults.output }
     {
         match torn {
             Ok(()) => {
                 self.last = Span::default();
-                raise(&mut self.cuts);
+                raise(&mut self.faults.cuts);
                 Err(Refusal::Cut)
             }
             Err(_) => {
-                raise(&mut self.memory_faults);
+                raise(&mut self.faults.memory);
                 Err(Refusal::Failed)
             }
         }
@@ -138,9 +125,7 @@ impl<'a, R: Files + Print> FileBoard<'a, R> {
     // Opens the file where it is not open.
     fn reach(&mut self) -> io::Result<()>
         ensures memory_calls { self.new.memory_calls ≡ one_more self.old.memory_calls }
-        ensures memory_faults { self.new.memory_faults ≡ self.old.memory_faults }
-        ensures output_faults { self.new.output_faults ≡ self.old.output_faults }
-        ensures cuts { self.new.cuts ≡ self.old.cuts }
+        ensures faults { self.new.faults ≡ self.old.faults }
     {
         self.file = Some(self.take_file()?);
         Ok(())
@@ -148,9 +133,7 @@ impl<'a, R: Files + Print> FileBoard<'a, R> {
 
     fn write_back(&mut self) -> io::Result<()>
         ensures memory_calls { self.new.memory_calls ≡ one_more self.old.memory_calls }
-        ensures memory_faults { self.new.memory_faults ≡ self.old.memory_faults }
-        ensures output_faults { self.new.output_faults ≡ self.old.output_faults }
-        ensures cuts { self.new.cuts ≡ self.old.cuts }
+        ensures faults { self.new.faults ≡ self.old.faults }
     {
         let file = self.take_file()?;
         let answer = file.sync_all();
@@ -276,7 +259,7 @@ fn tear_whole<F: OpenFile + Write + Seek>(
     others: usize,
     fill: u8,
 ) -> io::Result<()>
-    requires { at + (length kept.now + others) ≤ 16384 }
+    requires { at + (length kept.now + others) ≤ memory_size }
 {
     write_whole(file, at, kept)?;
     let from = at + kept.len() as u32;
@@ -298,17 +281,13 @@ impl<R: Files + Print> Board for FileBoard<'_, R> {
 
     ghost memory_calls = { λ b. b.memory_calls };
 
-    ghost memory_faults = { λ b. b.memory_faults };
-
-    ghost output_faults = { λ b. b.output_faults };
-
-    ghost cuts = { λ b. b.cuts };
+    ghost faults = { λ b. b.faults };
 
     fn load(&mut self, at: u32, into: &mut [u8]) -> Result<(), Failed> {
         match self.read_at(at, into) {
             Ok(()) => Ok(()),
             Err(_) => {
-                raise(&mut self.memory_faults);
+                raise(&mut self.faults.memory);
                 Err(Failed)
             }
         }
@@ -327,7 +306,7 @@ impl<R: Files + Print> Board for FileBoard<'_, R> {
                 Ok(())
             }
             Err(_) => {
-                raise(&mut self.memory_faults);
+                raise(&mut self.faults.memory);
                 Err(Refusal::Failed)
             }
         }
@@ -345,7 +324,7 @@ impl<R: Files + Print> Board for FileBoard<'_, R> {
                 Ok(())
             }
             Err(_) => {
-                raise(&mut self.memory_faults);
+                raise(&mut self.faults.memory);
                 Err(Refusal::Failed)
             }
         }
@@ -357,7 +336,7 @@ impl<R: Files + Print> Board for FileBoard<'_, R> {
             match self.rt.write_some(rest) {
                 Ok(count) if count > 0 => rest = &rest[count..],
                 _ => {
-                    raise(&mut self.output_faults);
+                    raise(&mut self.faults.output);
                     return Err(Failed);
                 }
             }
@@ -376,7 +355,7 @@ impl<R: Files + Print> Board for FileBoard<'_, R> {
                 Ok(())
             }
             Err(_) => {
-                raise(&mut self.memory_faults);
+                raise(&mut self.faults.memory);
                 Err(Failed)
             }
         }
@@ -389,7 +368,7 @@ impl<R: Files + Print> Board for FileBoard<'_, R> {
                 Ok(())
             }
             Err(_) => {
-                raise(&mut self.memory_faults);
+                raise(&mut self.faults.memory);
                 Err(Failed)
             }
         }

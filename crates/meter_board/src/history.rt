@@ -1,5 +1,6 @@
 //! The trace of a board, kept in memory.
 ghost use Rattle.std.specs.Prelude.{◌≡◌, ◌+◌, ◌<◌, ◌≤◌, ◌↔◌, [], true, false, length, vec_len, vec_capacity, IfOk, IsTrue};
+ghost use Rattle.trace_model.specs.Images.{memory_size};
 ghost use Rattle.trace_model.specs.Trace.{Start, Store, Cut, ◌▷◌};
 ghost use Rattle.trace_model.specs.Output.{output_of};
 ghost use Rattle.meter_board.specs.Told.{entry_with, put_by, size_of, stored_by};
@@ -18,7 +19,7 @@ pub struct History {
     pub output: Vec<u8>,
     pub entry_room: usize,
     pub byte_room: usize,
-    ghost base_whole: { length base.items ≡ 16384 },
+    ghost base_whole: { length base.items ≡ memory_size },
     ghost stored_whole: { stored_by marks.items ≡ length stored.items },
     ghost output_whole: { put_by marks.items ≡ length output.items },
     ghost entries_fit: { entry_room ≤ vec_capacity marks },
@@ -39,7 +40,7 @@ impl History {
         entries: usize,
         bytes: usize,
     ) -> Result<History, AllocError>
-        requires { length image.now ≡ 16384 }
+        requires { length image.now ≡ memory_size }
         ensures trace { IfOk result (λ h. history_trace h ≡ Start image.now) }
         ensures entry_room { IfOk result (λ h. h.entry_room ≡ entries) }
         ensures byte_room { IfOk result (λ h. h.byte_room ≡ bytes) }

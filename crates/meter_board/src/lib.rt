@@ -6,7 +6,9 @@
 
 mod arm;
 mod board;
+mod call_counts;
 mod counts;
+mod fault_counts;
 mod file_board;
 mod history;
 mod mark;
@@ -19,6 +21,7 @@ mod std_source;
 mod tests;
 
 pub use board::Board;
+pub use fault_counts::FaultCounts;
 pub use file_board::FileBoard;
 pub use refusal::Refusal;
 pub use sim_board::{Call, CallKind, Output, SimBoard};

@@ -4,18 +4,19 @@ ghost use Rattle.std.specs.Iterator.{YieldsFirst, item_count};
 ghost use Rattle.std.proofs.Props.{props};
 ghost use Rattle.trace_model.specs.Trace.{Start, Store, Sync, Missed, Put, Arm, Cut, ◌▷◌};
 ghost use Rattle.trace_model.specs.Output.{output_of};
-ghost use Rattle.trace_model.specs.Images.{IsImage, pending, replaced, written};
-ghost use Rattle.meter_board.specs.Causes.{HasCause, HasCauses, one_more};
+ghost use Rattle.trace_model.specs.Images.{IsImage, memory_size, pending, replaced, written};
+ghost use Rattle.meter_board.specs.Causes.{CausedBy, MemoryCause, OutputCause, RefusalCause, one_more};
 ghost use Rattle.meter_board.specs.Puts.{PutGives};
 ghost use Rattle.meter_board.specs.Stores.{ArmGives, PowerGives, StoreGives, SyncGives};
 ghost use Rattle.meter_board.specs.Tears.{last_at, last_len, last_torn, torn};
 ghost use Rattle.meter_board.specs.Histories.{HistoryHasRoom, HistoryHasRoomForTwo, history_trace};
 
 use crate::arm::{Armed, Span, tear};
+use crate::call_counts::CallCounts;
 use crate::counts::raise;
 use crate::history::History;
 use crate::mark::Mark;
-use crate::{Board, Failed, Refusal};
+use crate::{Board, Failed, FaultCounts, Refusal};
 use arrayvec::ArrayVec;
 use std::alloc::{AllocError, Global};
 
@@ -45,15 +46,8 @@ const MAX_FAILING: usize = 16;
 pub struct SimBoard {
     history: History,
     memory: Vec<u8>,
-    memory_faults: u64,
-    output_faults: u64,
-    cuts: u64,
-    loads: u64,
-    stores: u64,
-    syncs: u64,
-    puts: u64,
-    arms: u64,
-    powers: u64,
+    faults: FaultCounts,
+    calls: CallCounts,
     armed: Armed,
     // The range of the last store since the last sync or cut, an empty one where there is none.
     last: Span,
@@ -62,11 +56,11 @@ pub struct SimBoard {
     ghost possible: { IsImage (history_trace history) memory.items } by { Prim.hlevel props },
     ghost last_place: { last.at ≡ last_at (pending (history_trace history)) },
     ghost last_size: { last.len ≡ last_len (pending (history_trace history)) },
-    ghost last_fits: { last.at + last.len ≤ 16384 },
+    ghost last_fits: { last.at + last.len ≤ memory_size },
 }
 
 impl SimBoard {
-    ghost use Rattle.meter_board.specs.Sim.{BoardAsBefore, IsFailing, output_left, sim_trace, sim_reads, sim_memory_faults, sim_output_faults, sim_cuts, sim_loads, sim_stores, sim_syncs, sim_puts, sim_arms, sim_powers, sim_armed, sim_failing, sim_entry_room, sim_byte_room};
+    ghost use Rattle.meter_board.specs.Sim.{BoardAsBefore, IsFailing, output_left, sim_trace, sim_reads, sim_faults, sim_calls, sim_armed, sim_failing, sim_entry_room, sim_byte_room};
 
     /// A board over this image of its memory, with room for so many entries of its trace, and for so many
     /// bytes in them together.
@@ -79,18 +73,11 @@ impl SimBoard {
         entries: usize,
         bytes: usize,
     ) -> Result<SimBoard, AllocError>
-        requires { length image.now ≡ 16384 }
+        requires { length image.now ≡ memory_size }
         ensures trace { IfOk result (λ b. sim_trace b ≡ Start image.now) }
         ensures reads { IfOk result (λ b. sim_reads b ≡ image.now) }
-        ensures memory_faults { IfOk result (λ b. sim_memory_faults b ≡ 0) }
-        ensures output_faults { IfOk result (λ b. sim_output_faults b ≡ 0) }
-        ensures cuts { IfOk result (λ b. sim_cuts b ≡ 0) }
-        ensures loads { IfOk result (λ b. sim_loads b ≡ 0) }
-        ensures stores { IfOk result (λ b. sim_stores b ≡ 0) }
-        ensures syncs { IfOk result (λ b. sim_syncs b ≡ 0) }
-        ensures puts { IfOk result (λ b. sim_puts b ≡ 0) }
-        ensures arms { IfOk result (λ b. sim_arms b ≡ 0) }
-        ensures powers { IfOk result (λ b. sim_powers b ≡ 0) }
+        ensures faults { IfOk result (λ b. sim_faults b ≡ record { memory = 0; output = 0; cuts = 0 }) }
+        ensures calls { IfOk result (λ b. sim_calls b ≡ record { loads = 0; stores = 0; syncs = 0; puts = 0; arms = 0; powers = 0 }) }
         ensures armed { IfOk result (λ b. sim_armed b ≡ record { calls = 0; keep = 0; fill = 0 }) }
         ensures failing { IfOk result (λ b. sim_failing b ≡ []) }
         ensures entry_room { IfOk result (λ b. sim_entry_room b ≡ entries) }
@@ -99,15 +86,8 @@ impl SimBoard {
         Ok(SimBoard {
             history: History::new(alloc, image, entries, bytes)?,
             memory: Vec::from_slice(alloc, image)?,
-            memory_faults: 0,
-            output_faults: 0,
-            cuts: 0,
-            loads: 0,
-            stores: 0,
-            syncs: 0,
-            puts: 0,
-            arms: 0,
-            powers: 0,
+            faults: FaultCounts::default(),
+            calls: CallCounts::default(),
             armed: Armed::default(),
             last: Span::default(),
             failing: ArrayVec::new(),
@@ -200,9 +180,9 @@ fn cut_store(
     at: u32,
     bytes: &[u8],
 ) -> bool
-    requires whole { length memory.old.items ≡ 16384 }
-    requires fits { at + length bytes.now ≤ 16384 }
-    ensures room { IsTrue result ↔ HistoryHasRoomForTwo history.old (length bytes.now + 16384) }
+    requires whole { length memory.old.items ≡ memory_size }
+    requires fits { at + length bytes.now ≤ memory_size }
+    ensures room { IsTrue result ↔ HistoryHasRoomForTwo history.old (length bytes.now + memory_size) }
     ensures torn { IsTrue result → memory.new.items ≡ replaced memory.old.items at (torn armed.keep armed.fill bytes.now) }
     ensures added { IsTrue result → history_trace history.new ≡ history_trace history.old ▷ Store at bytes.now ▷ Cut true memory.new.items }
     ensures same_trace { result ≡ false → history_trace history.new ≡ history_trace history.old }
@@ -222,9 +202,9 @@ fn cut_store(
 
 // Cuts the power within a sync, where there is room for the entry. Else answers false, and changes nothing.
 fn cut_sync(history: &mut History, memory: &mut Vec<u8>, armed: Armed, last: Span) -> bool
-    requires whole { length memory.old.items ≡ 16384 }
-    requires fits { last.at + last.len ≤ 16384 }
-    ensures room { IsTrue result ↔ HistoryHasRoom history.old 16384 }
+    requires whole { length memory.old.items ≡ memory_size }
+    requires fits { last.at + last.len ≤ memory_size }
+    ensures room { IsTrue result ↔ HistoryHasRoom history.old memory_size }
     ensures torn { IsTrue result → memory.new.items ≡ replaced memory.old.items last.at (torn armed.keep armed.fill (take last.len (drop last.at memory.old.items))) }
     ensures added { IsTrue result → history_trace history.new ≡ history_trace history.old ▷ Cut true memory.new.items }
     ensures same_trace { result ≡ false → history_trace history.new ≡ history_trace history.old }
@@ -242,7 +222,7 @@ fn cut_sync(history: &mut History, memory: &mut Vec<u8>, armed: Armed, last: Spa
 }
 
 impl Board for SimBoard {
-    ghost use Rattle.meter_board.specs.Sim.{Adds, AddsCut, AddsCutStore, FailsAsTold, FailsLoad, FailsPower, FailsPut, FailsStore, FailsSync, HasRoom, IsDue, RoomsAsBefore, counted, half_of, has_failed, was_cut, sim_trace, sim_reads, sim_memory_calls, sim_memory_faults, sim_output_faults, sim_cuts, sim_loads, sim_stores, sim_syncs, sim_puts, sim_arms, sim_powers, sim_armed};
+    ghost use Rattle.meter_board.specs.Sim.{Adds, AddsCut, AddsCutStore, FailsAsTold, FailsLoad, FailsPower, FailsPut, FailsStore, FailsSync, HasRoom, IsDue, RoomsAsBefore, counted, half_of, after_refusal, memory_fault, output_fault, sim_trace, sim_reads, sim_memory_calls, sim_faults, sim_calls, sim_armed};
     ghost use Rattle.meter_board.specs.SimLaws.{sim_whole};
 
     ghost tells = { Unit {0} };
@@ -253,36 +233,25 @@ impl Board for SimBoard {
 
     ghost memory_calls = { λ b. sim_memory_calls b };
 
-    ghost memory_faults = { λ b. b.memory_faults };
-
-    ghost output_faults = { λ b. b.output_faults };
-
-    ghost cuts = { λ b. sim_cuts b };
+    ghost faults = { λ b. sim_faults b };
 
     /// Every load counts, one that fails too. It fails where it is one that fails.
     fn load(&mut self, at: u32, into: &mut [u8]) -> Result<(), Failed>
-        requires { at + length into.old ≤ 16384 }
+        requires { at + length into.old ≤ memory_size }
         ensures memory_calls { sim_memory_calls self.new ≡ one_more (sim_memory_calls self.old) }
         ensures bytes { Unit {0} → OnOk result (into.new ≡ take (length into.old) (drop at (sim_reads self.old))) }
         ensures trace { Unit {0} → sim_trace self.new ≡ sim_trace self.old }
         ensures reads { Unit {0} → sim_reads self.new ≡ sim_reads self.old }
-        ensures cause { HasCause (sim_memory_faults self.old) (sim_memory_faults self.new) result }
-        ensures output_faults { sim_output_faults self.new ≡ sim_output_faults self.old }
-        ensures cuts { sim_cuts self.new ≡ sim_cuts self.old }
+        ensures cause { CausedBy MemoryCause (sim_faults self.old) (sim_faults self.new) result }
         ensures ok { IsOk result ↔ ¬ FailsLoad self.old }
-        ensures memory_faults { sim_memory_faults self.new ≡ (if is_err result then one_more (sim_memory_faults self.old) else sim_memory_faults self.old) }
-        ensures loads { sim_loads self.new ≡ one_more (sim_loads self.old) }
-        ensures stores { sim_stores self.new ≡ sim_stores self.old }
-        ensures syncs { sim_syncs self.new ≡ sim_syncs self.old }
-        ensures puts { sim_puts self.new ≡ sim_puts self.old }
-        ensures arms { sim_arms self.new ≡ sim_arms self.old }
-        ensures powers { sim_powers self.new ≡ sim_powers self.old }
+        ensures faults { sim_faults self.new ≡ (if is_err result then memory_fault (sim_faults self.old) else sim_faults self.old) }
+        ensures calls { sim_calls self.new ≡ record (sim_calls self.old) { loads = one_more (sim_calls self.old).loads } }
         ensures armed { sim_armed self.new ≡ sim_armed self.old }
         ensures rooms { RoomsAsBefore self.old self.new }
     {
-        raise(&mut self.loads);
-        if self.is_failing(CallKind::Load, self.loads) {
-            raise(&mut self.memory_faults);
+        raise(&mut self.calls.loads);
+        if self.is_failing(CallKind::Load, self.calls.loads) {
+            raise(&mut self.faults.memory);
             return Err(Failed);
         }
         let from = at as usize;
@@ -294,45 +263,38 @@ impl Board for SimBoard {
     /// Every store counts, one that fails too, for a cut that waits too. It fails where there is no room, and where it
     /// is one that fails, and stores nothing then. A store that is cut needs room for both its entries.
     fn store(&mut self, at: u32, bytes: &[u8]) -> Result<(), Refusal>
-        requires { at + length bytes.now ≤ 16384 }
+        requires { at + length bytes.now ≤ memory_size }
         ensures memory_calls { sim_memory_calls self.new ≡ one_more (sim_memory_calls self.old) }
         ensures gives { Unit {0} → StoreGives at bytes.now (sim_trace self.old) (sim_reads self.old) result (sim_trace self.new) (sim_reads self.new) }
-        ensures causes { HasCauses (sim_memory_faults self.old) (sim_memory_faults self.new) (sim_cuts self.old) (sim_cuts self.new) result }
+        ensures cause { CausedBy RefusalCause (sim_faults self.old) (sim_faults self.new) result }
         ensures ok { IsOk result ↔ ((¬ IsDue self.old) × Adds self.old (Store at bytes.now) (FailsStore self.old)) }
         ensures cut { IsErrOf result Refusal.Cut ↔ (IsDue self.old × AddsCutStore self.old bytes.now (FailsStore self.old)) }
         ensures same_trace { IsErrOf result Refusal.Failed → sim_trace self.new ≡ sim_trace self.old }
         ensures same_reads { IsErrOf result Refusal.Failed → sim_reads self.new ≡ sim_reads self.old }
         ensures torn { IsErrOf result Refusal.Cut → sim_reads self.new ≡ replaced (sim_reads self.old) at (torn (sim_armed self.old).keep (sim_armed self.old).fill bytes.now) }
-        ensures memory_faults { sim_memory_faults self.new ≡ (if has_failed result then one_more (sim_memory_faults self.old) else sim_memory_faults self.old) }
-        ensures output_faults { sim_output_faults self.new ≡ sim_output_faults self.old }
-        ensures cuts { sim_cuts self.new ≡ (if was_cut result then one_more (sim_cuts self.old) else sim_cuts self.old) }
-        ensures loads { sim_loads self.new ≡ sim_loads self.old }
-        ensures stores { sim_stores self.new ≡ one_more (sim_stores self.old) }
-        ensures syncs { sim_syncs self.new ≡ sim_syncs self.old }
-        ensures puts { sim_puts self.new ≡ sim_puts self.old }
-        ensures arms { sim_arms self.new ≡ sim_arms self.old }
-        ensures powers { sim_powers self.new ≡ sim_powers self.old }
+        ensures faults { sim_faults self.new ≡ after_refusal result (sim_faults self.old) }
+        ensures calls { sim_calls self.new ≡ record (sim_calls self.old) { stores = one_more (sim_calls self.old).stores } }
         ensures armed { sim_armed self.new ≡ counted (sim_armed self.old) }
         ensures rooms { RoomsAsBefore self.old self.new }
     {
-        raise(&mut self.stores);
+        raise(&mut self.calls.stores);
         let due = self.armed.count();
-        if self.is_failing(CallKind::Store, self.stores) {
-            raise(&mut self.memory_faults);
+        if self.is_failing(CallKind::Store, self.calls.stores) {
+            raise(&mut self.faults.memory);
             return Err(Refusal::Failed);
         }
         if due {
             if !cut_store(&mut self.history, &mut self.memory, self.armed, at, bytes) {
-                raise(&mut self.memory_faults);
+                raise(&mut self.faults.memory);
                 return Err(Refusal::Failed);
             }
             self.last = Span::default();
-            raise(&mut self.cuts);
+            raise(&mut self.faults.cuts);
             return Err(Refusal::Cut);
         }
         let len = bytes.len();
         if !self.history.add(Mark::Store { at, len }, bytes) {
-            raise(&mut self.memory_faults);
+            raise(&mut self.faults.memory);
             return Err(Refusal::Failed);
         }
         overwrite(&mut self.memory, at as usize, bytes);
@@ -345,41 +307,34 @@ impl Board for SimBoard {
     fn sync(&mut self) -> Result<(), Refusal>
         ensures memory_calls { sim_memory_calls self.new ≡ one_more (sim_memory_calls self.old) }
         ensures gives { Unit {0} → SyncGives (sim_trace self.old) (sim_reads self.old) result (sim_trace self.new) (sim_reads self.new) }
-        ensures causes { HasCauses (sim_memory_faults self.old) (sim_memory_faults self.new) (sim_cuts self.old) (sim_cuts self.new) result }
+        ensures cause { CausedBy RefusalCause (sim_faults self.old) (sim_faults self.new) result }
         ensures ok { IsOk result ↔ ((¬ IsDue self.old) × Adds self.old Sync (FailsSync self.old)) }
         ensures cut { IsErrOf result Refusal.Cut ↔ (IsDue self.old × AddsCut self.old (FailsSync self.old)) }
         ensures missed { IsErrOf result Refusal.Failed → FailsAsTold self.old Missed (FailsSync self.old) (sim_trace self.new) }
         ensures torn { IsErrOf result Refusal.Cut → sim_reads self.new ≡ last_torn (sim_armed self.old).keep (sim_armed self.old).fill (pending (sim_trace self.old)) (sim_reads self.old) }
-        ensures memory_faults { sim_memory_faults self.new ≡ (if has_failed result then one_more (sim_memory_faults self.old) else sim_memory_faults self.old) }
-        ensures output_faults { sim_output_faults self.new ≡ sim_output_faults self.old }
-        ensures cuts { sim_cuts self.new ≡ (if was_cut result then one_more (sim_cuts self.old) else sim_cuts self.old) }
-        ensures loads { sim_loads self.new ≡ sim_loads self.old }
-        ensures stores { sim_stores self.new ≡ sim_stores self.old }
-        ensures syncs { sim_syncs self.new ≡ one_more (sim_syncs self.old) }
-        ensures puts { sim_puts self.new ≡ sim_puts self.old }
-        ensures arms { sim_arms self.new ≡ sim_arms self.old }
-        ensures powers { sim_powers self.new ≡ sim_powers self.old }
+        ensures faults { sim_faults self.new ≡ after_refusal result (sim_faults self.old) }
+        ensures calls { sim_calls self.new ≡ record (sim_calls self.old) { syncs = one_more (sim_calls self.old).syncs } }
         ensures armed { sim_armed self.new ≡ counted (sim_armed self.old) }
         ensures rooms { RoomsAsBefore self.old self.new }
     {
-        raise(&mut self.syncs);
+        raise(&mut self.calls.syncs);
         let due = self.armed.count();
-        if self.is_failing(CallKind::Sync, self.syncs) {
+        if self.is_failing(CallKind::Sync, self.calls.syncs) {
             self.history.add(Mark::Missed, &[]);
-            raise(&mut self.memory_faults);
+            raise(&mut self.faults.memory);
             return Err(Refusal::Failed);
         }
         if due {
             if !cut_sync(&mut self.history, &mut self.memory, self.armed, self.last) {
-                raise(&mut self.memory_faults);
+                raise(&mut self.faults.memory);
                 return Err(Refusal::Failed);
             }
             self.last = Span::default();
-            raise(&mut self.cuts);
+            raise(&mut self.faults.cuts);
             return Err(Refusal::Cut);
         }
         if !self.history.add(Mark::Sync, &[]) {
-            raise(&mut self.memory_faults);
+            raise(&mut self.faults.memory);
             return Err(Refusal::Failed);
         }
         self.last = Span::default();
@@ -393,30 +348,23 @@ impl Board for SimBoard {
         ensures memory_calls { sim_memory_calls self.new ≡ sim_memory_calls self.old }
         ensures gives { Unit {0} → PutGives (sim_trace self.old) bytes.now result (sim_trace self.new) }
         ensures reads { Unit {0} → sim_reads self.new ≡ sim_reads self.old }
-        ensures cause { HasCause (sim_output_faults self.old) (sim_output_faults self.new) result }
+        ensures cause { CausedBy OutputCause (sim_faults self.old) (sim_faults self.new) result }
         ensures ok { IsOk result ↔ Adds self.old (Put bytes.now) (FailsPut self.old) }
         ensures half { OnErr result (FailsAsTold self.old (Put (half_of bytes.now)) (FailsPut self.old) (sim_trace self.new)) }
-        ensures memory_faults { sim_memory_faults self.new ≡ sim_memory_faults self.old }
-        ensures output_faults { sim_output_faults self.new ≡ (if is_err result then one_more (sim_output_faults self.old) else sim_output_faults self.old) }
-        ensures cuts { sim_cuts self.new ≡ sim_cuts self.old }
-        ensures loads { sim_loads self.new ≡ sim_loads self.old }
-        ensures stores { sim_stores self.new ≡ sim_stores self.old }
-        ensures syncs { sim_syncs self.new ≡ sim_syncs self.old }
-        ensures puts { sim_puts self.new ≡ one_more (sim_puts self.old) }
-        ensures arms { sim_arms self.new ≡ sim_arms self.old }
-        ensures powers { sim_powers self.new ≡ sim_powers self.old }
+        ensures faults { sim_faults self.new ≡ (if is_err result then output_fault (sim_faults self.old) else sim_faults self.old) }
+        ensures calls { sim_calls self.new ≡ record (sim_calls self.old) { puts = one_more (sim_calls self.old).puts } }
         ensures armed { sim_armed self.new ≡ sim_armed self.old }
         ensures rooms { RoomsAsBefore self.old self.new }
     {
-        raise(&mut self.puts);
-        if self.is_failing(CallKind::Put, self.puts) {
+        raise(&mut self.calls.puts);
+        if self.is_failing(CallKind::Put, self.calls.puts) {
             let half = &bytes[..bytes.len() / 2];
             self.history.add(Mark::Put { len: half.len() }, half);
-            raise(&mut self.output_faults);
+            raise(&mut self.faults.output);
             return Err(Failed);
         }
         if !self.history.add(Mark::Put { len: bytes.len() }, bytes) {
-            raise(&mut self.output_faults);
+            raise(&mut self.faults.output);
             return Err(Failed);
         }
         Ok(())
@@ -428,23 +376,16 @@ impl Board for SimBoard {
         ensures memory_calls { sim_memory_calls self.new ≡ one_more (sim_memory_calls self.old) }
         ensures gives { Unit {0} → ArmGives n keep fill (sim_trace self.old) result (sim_trace self.new) }
         ensures reads { Unit {0} → sim_reads self.new ≡ sim_reads self.old }
-        ensures cause { HasCause (sim_memory_faults self.old) (sim_memory_faults self.new) result }
+        ensures cause { CausedBy MemoryCause (sim_faults self.old) (sim_faults self.new) result }
         ensures ok { IsOk result ↔ HasRoom self.old (Arm n keep fill) }
-        ensures memory_faults { sim_memory_faults self.new ≡ (if is_err result then one_more (sim_memory_faults self.old) else sim_memory_faults self.old) }
-        ensures output_faults { sim_output_faults self.new ≡ sim_output_faults self.old }
-        ensures cuts { sim_cuts self.new ≡ sim_cuts self.old }
-        ensures loads { sim_loads self.new ≡ sim_loads self.old }
-        ensures stores { sim_stores self.new ≡ sim_stores self.old }
-        ensures syncs { sim_syncs self.new ≡ sim_syncs self.old }
-        ensures puts { sim_puts self.new ≡ sim_puts self.old }
-        ensures arms { sim_arms self.new ≡ one_more (sim_arms self.old) }
-        ensures powers { sim_powers self.new ≡ sim_powers self.old }
+        ensures faults { sim_faults self.new ≡ (if is_err result then memory_fault (sim_faults self.old) else sim_faults self.old) }
+        ensures calls { sim_calls self.new ≡ record (sim_calls self.old) { arms = one_more (sim_calls self.old).arms } }
         ensures armed { sim_armed self.new ≡ (if is_err result then sim_armed self.old else record { calls = n; keep = keep; fill = fill }) }
         ensures rooms { RoomsAsBefore self.old self.new }
     {
-        raise(&mut self.arms);
+        raise(&mut self.calls.arms);
         if !self.history.add(Mark::Arm { n, keep, fill }, &[]) {
-            raise(&mut self.memory_faults);
+            raise(&mut self.faults.memory);
             return Err(Failed);
         }
         self.cut_on(n, keep, fill);
@@ -456,24 +397,17 @@ impl Board for SimBoard {
     fn power(&mut self) -> Result<(), Failed>
         ensures memory_calls { sim_memory_calls self.new ≡ one_more (sim_memory_calls self.old) }
         ensures gives { Unit {0} → PowerGives (sim_trace self.old) (sim_reads self.old) result (sim_trace self.new) (sim_reads self.new) }
-        ensures cause { HasCause (sim_memory_faults self.old) (sim_memory_faults self.new) result }
+        ensures cause { CausedBy MemoryCause (sim_faults self.old) (sim_faults self.new) result }
         ensures ok { IsOk result ↔ AddsCut self.old (FailsPower self.old) }
         ensures same_reads { sim_reads self.new ≡ sim_reads self.old }
-        ensures memory_faults { sim_memory_faults self.new ≡ (if is_err result then one_more (sim_memory_faults self.old) else sim_memory_faults self.old) }
-        ensures output_faults { sim_output_faults self.new ≡ sim_output_faults self.old }
-        ensures cuts { sim_cuts self.new ≡ sim_cuts self.old }
-        ensures loads { sim_loads self.new ≡ sim_loads self.old }
-        ensures stores { sim_stores self.new ≡ sim_stores self.old }
-        ensures syncs { sim_syncs self.new ≡ sim_syncs self.old }
-        ensures puts { sim_puts self.new ≡ sim_puts self.old }
-        ensures arms { sim_arms self.new ≡ sim_arms self.old }
-        ensures powers { sim_powers self.new ≡ one_more (sim_powers self.old) }
+        ensures faults { sim_faults self.new ≡ (if is_err result then memory_fault (sim_faults self.old) else sim_faults self.old) }
+        ensures calls { sim_calls self.new ≡ record (sim_calls self.old) { powers = one_more (sim_calls self.old).powers } }
         ensures armed { sim_armed self.new ≡ sim_armed self.old }
         ensures rooms { RoomsAsBefore self.old self.new }
     {
-        raise(&mut self.powers);
-        if self.is_failing(CallKind::Power, self.powers) {
-            raise(&mut self.memory_faults);
+        raise(&mut self.calls.powers);
+        if self.is_failing(CallKind::Power, self.calls.powers) {
+            raise(&mut self.faults.memory);
             return Err(Failed);
         }
         let cut = Mark::Cut {
@@ -481,7 +415,7 @@ impl Board for SimBoard {
             len: self.memory.len(),
         };
         if !self.history.add(cut, &self.memory) {
-            raise(&mut self.memory_faults);
+            raise(&mut self.faults.memory);
             return Err(Failed);
         }
         self.last = Span::default();

@@ -7,7 +7,8 @@ use Rattle.number_model.specs.Fraction.{Fraction}
 use Rattle.water_model.specs.Decimal.{integer}
 use Rattle.platinum_model.specs.Element.{Element}
 use Rattle.platinum_model.specs.Sample.{IsInRange, IsCellSpan}
-use Rattle.heat_model.specs.Heat.{Place, LiesBetween}
+use Rattle.heat_model.specs.Heat.{LiesBetween}
+use Rattle.parts_model.specs.Place.{Place}
 use Rattle.bench_model.specs.Verdicts as model
 use Rattle.bench_model.specs.Verdicts.{calculator_verdict, pair_verdict}
 use Rattle.bench_limits.specs.Judged.{IfDecided, IfUndecided, IsJudged}
@@ -43,12 +44,7 @@ pub litre_near : (e : Element) (rf rr : ℕ) (lo hi : ℤ) (f_lo f_hi r_lo r_hi 
     → (pos 15 *ℤ (hi -ℤ lo)) ≤ℤ pos (241 + 2 * ((f_hi - f_lo) + (r_hi - r_lo))) → AreNear e rf rr lo hi
 litre_near e rf rr lo hi f_lo f_hi r_lo r_hi f r closer = record {
   near = omega (arith, ints, f.width, r.width);
-  f_lo = f_lo;
-  f_hi = f_hi;
-  r_lo = r_lo;
-  r_hi = r_hi;
-  flow_cell = f;
-  return_cell = r;
+  cells = record { f_lo = f_lo; f_hi = f_hi; r_lo = r_lo; r_hi = r_hi; flow_cell = f; return_cell = r };
   closer = closer;
 }
 
@@ -57,12 +53,7 @@ pub pair_judged : (e : Element) (dmin tf tr rf rr f_lo f_hi r_lo r_hi : ℕ) (ju
 pair_judged e dmin tf tr rf rr f_lo f_hi r_lo r_hi judged flow_in ret_in f r is = record {
   flow_in_range = flow_in;
   return_in_range = ret_in;
-  f_lo = f_lo;
-  f_hi = f_hi;
-  r_lo = r_lo;
-  r_hi = r_hi;
-  flow_cell = f;
-  return_cell = r;
+  cells = record { f_lo = f_lo; f_hi = f_hi; r_lo = r_lo; r_hi = r_hi; flow_cell = f; return_cell = r };
   near = omega (arith, ints, f.width, r.width);
   is = is;
 }

@@ -6,12 +6,13 @@ use Rattle.calendar_model.specs.Calendar.{day_number}
 use Rattle.metering_model.specs.Events.{Event, Sample, Pulse, Date, Kept, pulses_of}
 use Rattle.metering_model.specs.Counting.{counted_by}
 use Rattle.metering_model.specs.Records.{MeterRecord, Register, StandsFor, day_after}
-use Rattle.metering_model.specs.Integral.{AddsBy, AllFitClosely, FitsClosely, TakesEvent}
-use Rattle.metering_model.specs.Near.{AreNear}
-use Rattle.metering_model.proofs.Joined.{fit-more, margin-of-closely, register_after-joined, day_after-joined}
+use Rattle.integral_model.specs.Integral.{AddsBy, AllFitClosely, FitsClosely, TakesEvent}
+use Rattle.integral_model.specs.Near.{AreNear}
+use Rattle.metering_model.proofs.Joined.{register_after-joined, day_after-joined}
+use Rattle.integral_model.proofs.Joined.{fit-more, margin-of-closely}
 use Rattle.generator_model.specs.Generated.{event_at, draw_at}
 use Rattle.load_gen.proofs.Steps.{first_day}
-use Rattle.journal_model.specs.Faults.{event_fault}
+use Rattle.answer_model.specs.Faults.{event_fault}
 use Rattle.meter_core.proofs.Records.{fault_by_kind, no_pulse_fault, no_date_fault}
 use Rattle.recovery_model.proofs.Bounded.{margin_is_near}
 use Rattle.run_engine.specs.Dry.{dry_configuration, dry_opening, dry_settings}

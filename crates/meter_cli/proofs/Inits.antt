@@ -13,7 +13,7 @@ use Rattle.trace_model.proofs.Moments.{Grew-prefix}
 use Rattle.register_store.specs.Formatted.{UnformattedOr}
 use Rattle.register_store.specs.Formatted.{HoldsInA}
 use Rattle.register_store.specs.Works.{Works}
-use Rattle.register_store.specs.declared.store_fault.StoreFault.{StoreFault}
+use Rattle.register_store.specs.declared.format_fault.FormatFault.{FormatFault}
 use Rattle.meter_cli.specs.Init.{Formats, InitLeaves, first_record, init_line}
 use Rattle.meter_cli.specs.Puts.{PutsLine}
 use Rattle.meter_cli.proofs.Lines.{leaves_line, grew_line}
@@ -29,7 +29,7 @@ fill_more into piece after left now rest filled n fits fits' is is' =
 
 -- ---- the format
 
-pub never : {A : Type 0} (x : A) (e f : StoreFault) → IsErrOf (Ok x) e ⊎ IsErrOf (Ok x) f → ⊥
+pub never : {A : Type 0} (x : A) (e f : FormatFault) → IsErrOf (Ok x) e ⊎ IsErrOf (Ok x) f → ⊥
 never x e f (inl h) = cc
 never x e f (inr h) = cc
 

@@ -10,3 +10,4 @@ pub mod Certs
 pub mod Readings
 pub mod Further
 pub mod Legible
+pub mod Temps

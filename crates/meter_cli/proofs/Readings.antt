@@ -1,5 +1,5 @@
 -- What readouts say is in range, and what decides it.
-use Rattle.std.proofs.Common.{◌≡◌, inl, inr, ◌∙◌, ℕ, zero, suc, ◌+◌, ◌-◌, ◌*◌, ◌/◌, ◌%◌, ◌^◌, ◌≤◌, ◌<◌, ◌==◌, ◌&&◌, ◌||◌, Bool, true, false, if◌then◌else◌, cond, pos, ℤ, List, [], ◌∷◌, ◌++◌, length, length-append, length-take, append-nil, take, drop, drop-cons, get_or, Option, None, Some, Result, Ok, Err, refl, sym, ap, subst, arith}
+use Rattle.std.proofs.Common.{◌≡◌, inl, inr, ◌∙◌, ℕ, zero, suc, ◌+◌, ◌-◌, ◌*◌, ◌/◌, ◌%◌, ◌^◌, ◌≤◌, ◌<◌, ◌==◌, ◌&&◌, ◌||◌, Bool, true, false, if◌then◌else◌, pos, ℤ, List, [], ◌∷◌, ◌++◌, length, length-append, length-take, append-nil, take, drop, drop-cons, get_or, Option, None, Some, Result, Ok, Err, refl, sym, ap, subst, arith}
 use Rattle.std.specs.Prelude.{IfOk, IfSome, nat_le, min}
 use Rattle.std.specs.List.{All, list_all}
 use Rattle.std.proofs.lemmas.Bool.{cases_Bool, cases_lt, leb-true}
@@ -9,8 +9,8 @@ use Rattle.std.proofs.Math.ListN.{drop_of_length-le}
 use Rattle.calendar_model.proofs.DayLemmas.{day_number-civil}
 use Rattle.script_model.specs.Grammar.{◌>>=◌}
 use Rattle.script_model.specs.Dates.{is_century_date, day_in_century}
-use Rattle.event_script.proofs.Dates.{is_century_date-iff}
-use Rattle.config_model.specs.Configuration.{is_capital}
+use Rattle.billing_memory.proofs.Dates.{is_century_date-iff}
+use Rattle.parts_model.specs.Ranges.{is_capital}
 use Rattle.frame_model.specs.Frames.{checksum}
 use Rattle.reading_model.specs.Rules.{Rule, rule, first_broken, unless_broken, byte}
 use Rattle.reading_model.specs.Fields.{Kind, Energy, Volume, FlowTemp, ReturnTemp, Difference, Date, Reading, Telegram}

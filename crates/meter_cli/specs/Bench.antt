@@ -6,20 +6,18 @@ use Rattle.water_model.specs.Decimal.{integer}
 use Rattle.platinum_model.specs.Element.{Element}
 use Rattle.platinum_model.specs.Sample.{IsInRange, IsInCell, IsCellSpan}
 use Rattle.platinum_model.specs.Pair.{AreWholeTemps, IsSmallPair}
-use Rattle.heat_model.specs.Heat
+use Rattle.parts_model.specs.Place as parts
 use Rattle.heat_model.specs.Heat.{LiesBetween, litre_energy}
 use Rattle.bench_model.specs.Verdicts as model
 use Rattle.bench_model.specs.Verdicts.{calculator_verdict, pair_verdict, flow_verdict}
 use Rattle.bench_limits.specs.Judged.{IfDecided, IfUndecided, IsJudged, judged_verdict}
 use Rattle.bench_limits.specs.declared.judged.Judged.{Judged}
 use Rattle.bench_limits.specs.declared.judged.Judged.TheVariants.{Pass, High, Low, Undecided}
-use Rattle.sensor_pair.specs.Place.{place_view}
-use Rattle.sensor_pair.specs.declared.place.Place.{Place}
-use Rattle.pt_curve.specs.declared.sensor.Sensor.{Sensor}
-use Rattle.trace_model.specs.Trace.{Trace}
-use Rattle.meter_cli.specs.Puts.{PutsLine}
+use Rattle.meter_parts.specs.Views.{place_view}
 use Rattle.meter_cli.specs.Temp.{element_of}
-use Rattle.meter_cli.specs.declared.status.Status.{Status}
+use Rattle.meter_cli.specs.declared.job.CalculatorTest.{CalculatorTest}
+use Rattle.meter_cli.specs.declared.job.PairTest.{PairTest}
+use Rattle.meter_cli.specs.declared.job.FlowTest.{FlowTest}
 
 -- `pass`, `high`, `low` or `undecided LO HI`
 abbrev pub judged_text : Judged → List ℕ
@@ -33,23 +31,27 @@ abbrev pub IsOut : Element → (rf rr : ℕ) → Type 0
 IsOut e rf rr = (IsInRange e rf → ⊥) ⊎ (IsInRange e rr → ⊥)
 
 -- this holds of the energy in millijoules that a litre gives off, whatever the temperatures in the cells of both samples
-abbrev pub AtEachLitre : Element → Heat.Place → (p rf rr : ℕ) → (Fraction → Type 0) → Type 0
+abbrev pub AtEachLitre : Element → parts.Place → (p rf rr : ℕ) → (Fraction → Type 0) → Type 0
 AtEachLitre e place p rf rr P = (tf tr : Fraction) → IsInCell e rf tf → IsInCell e rr tr → P (litre_energy p place tf tr)
 
--- The ends of the energy of a litre are at most 1,200 mJ apart, and, in millijoules, at most a fifteenth of 241 and twice the
--- widths of both cells in nanodegrees.
-pub record AreNear (e : Element) (rf rr : ℕ) (lo hi : ℤ) : Type 0 where
-  pub near : hi ≤ℤ (lo +ℤ pos 1200)
+-- the cells of both samples, in nanodegrees
+pub record HaveCells (e : Element) (rf rr : ℕ) : Type 0 where
   pub f_lo : ℕ
   pub f_hi : ℕ
   pub r_lo : ℕ
   pub r_hi : ℕ
   pub flow_cell : IsCellSpan e rf f_lo f_hi
   pub return_cell : IsCellSpan e rr r_lo r_hi
-  pub closer : (pos 15 *ℤ (hi -ℤ lo)) ≤ℤ pos (241 + 2 * ((f_hi - f_lo) + (r_hi - r_lo)))
+
+-- The ends of the energy of a litre are at most 1,200 mJ apart, and, in millijoules, at most a fifteenth of 241 and twice the
+-- widths of both cells in nanodegrees.
+pub record AreNear (e : Element) (rf rr : ℕ) (lo hi : ℤ) : Type 0 where
+  pub near : hi ≤ℤ (lo +ℤ pos 1200)
+  pub cells : HaveCells e rf rr
+  pub closer : (pos 15 *ℤ (hi -ℤ lo)) ≤ℤ pos (241 + 2 * ((cells.f_hi - cells.f_lo) + (cells.r_hi - cells.r_lo)))
 
 -- the ends hold that energy, are near, and have different verdicts
-pub record AreLitreEnds (e : Element) (place : Heat.Place) (p rf rr : ℕ) (verdict : Fraction → model.Verdict) (lo hi : ℤ) : Type 0 where
+pub record AreLitreEnds (e : Element) (place : parts.Place) (p rf rr : ℕ) (verdict : Fraction → model.Verdict) (lo hi : ℤ) : Type 0 where
   pub hold : AtEachLitre e place p rf rr (LiesBetween lo hi)
   pub near : AreNear e rf rr lo hi
   pub differ : verdict (integer lo) ≢ verdict (integer hi)
@@ -64,7 +66,7 @@ pub record IsWholeDifference (e : Element) (rf rr delta : ℕ) : Type 0 where
 
 -- The pair of samples counts. At the difference of its whole temperatures, the verdict is the calculator's at each energy
 -- that a litre may have given off, or else there are ends of that energy with different verdicts.
-pub record IsCalculatorJudged (e : Element) (place : Heat.Place) (p dmin rf rr litres energy : ℕ) (judged : Judged) : Type 0 where
+pub record IsCalculatorJudged (e : Element) (place : parts.Place) (p dmin rf rr litres energy : ℕ) (judged : Judged) : Type 0 where
   pub delta : ℕ
   pub difference : IsWholeDifference e rf rr delta
   pub decided : IfDecided judged (λ v. AtEachLitre e place p rf rr (λ q. calculator_verdict dmin delta litres energy q ≡ v))
@@ -76,37 +78,22 @@ pub record IsCalculatorJudged (e : Element) (place : Heat.Place) (p dmin rf rr l
 pub record IsPairJudged (e : Element) (dmin tf tr rf rr : ℕ) (judged : Judged) : Type 0 where
   pub flow_in_range : IsInRange e rf
   pub return_in_range : IsInRange e rr
-  pub f_lo : ℕ
-  pub f_hi : ℕ
-  pub r_lo : ℕ
-  pub r_hi : ℕ
-  pub flow_cell : IsCellSpan e rf f_lo f_hi
-  pub return_cell : IsCellSpan e rr r_lo r_hi
-  pub near : (pos f_hi -ℤ pos r_lo) ≤ℤ ((pos f_lo -ℤ pos r_hi) +ℤ pos 5600)
-  pub is : IsJudged (pair_verdict (1000 * dmin) (1000 * (tf - tr))) (pos f_lo -ℤ pos r_hi) (pos f_hi -ℤ pos r_lo) judged
+  pub cells : HaveCells e rf rr
+  pub near : (pos cells.f_hi -ℤ pos cells.r_lo) ≤ℤ ((pos cells.f_lo -ℤ pos cells.r_hi) +ℤ pos 5600)
+  pub is : IsJudged (pair_verdict (1000 * dmin) (1000 * (tf - tr))) (pos cells.f_lo -ℤ pos cells.r_hi) (pos cells.f_hi -ℤ pos cells.r_lo) judged
 
 -- the line of `bench calc`
-abbrev pub IsCalcText : Element → Heat.Place → (p dmin rf rr litres energy : ℕ) → List ℕ → Type 0
-IsCalcText e place p dmin rf rr litres energy text =
-    (IsOut e rf rr × (text ≡ codes "out\n")) ⊎ (IsSmallPair e e rf rr × (text ≡ codes "small\n")) ⊎ ((judged : Judged) × IsCalculatorJudged e place p dmin rf rr litres energy judged × (text ≡ judged_text judged ++ codes "\n"))
+abbrev pub IsCalcText : CalculatorTest → List ℕ → Type 0
+IsCalcText test text =
+    let e = element_of test.sensor in
+    (IsOut e test.rf test.rr × (text ≡ codes "out\n")) ⊎ (IsSmallPair e e test.rf test.rr × (text ≡ codes "small\n")) ⊎ ((judged : Judged) × IsCalculatorJudged e (place_view test.place) test.p_kpa test.dmin_udeg test.rf test.rr test.litres test.energy_mj judged × (text ≡ judged_text judged ++ codes "\n"))
 
 -- the line of `bench pair`
-abbrev pub IsPairText : Element → (dmin tf tr rf rr : ℕ) → List ℕ → Type 0
-IsPairText e dmin tf tr rf rr text =
-    (IsOut e rf rr × (text ≡ codes "out\n")) ⊎ ((judged : Judged) × IsPairJudged e dmin tf tr rf rr judged × (text ≡ judged_text judged ++ codes "\n"))
+abbrev pub IsPairText : PairTest → List ℕ → Type 0
+IsPairText test text =
+    let e = element_of test.sensor in
+    (IsOut e test.rf test.rr × (text ≡ codes "out\n")) ⊎ ((judged : Judged) × IsPairJudged e test.dmin_udeg test.tf_udeg test.tr_udeg test.rf test.rr judged × (text ≡ judged_text judged ++ codes "\n"))
 
 -- the line of `bench flow`
-abbrev pub flow_text : (class qp q reference indicated : ℕ) → List ℕ
-flow_text class qp q reference indicated = judged_text (judged_verdict (flow_verdict class qp q reference indicated)) ++ codes "\n"
-
--- what `bench calc` leaves
-pub record CalcLeaves (sensor : Sensor) (place : Place) (p dmin rf rr litres energy : ℕ) (old new : Trace) (status : Status) : Type 0 where
-  pub text : List ℕ
-  pub is : IsCalcText (element_of sensor) (place_view place) p dmin rf rr litres energy text
-  pub puts : PutsLine text old new status
-
--- what `bench pair` leaves
-pub record PairLeaves (sensor : Sensor) (dmin tf tr rf rr : ℕ) (old new : Trace) (status : Status) : Type 0 where
-  pub text : List ℕ
-  pub is : IsPairText (element_of sensor) dmin tf tr rf rr text
-  pub puts : PutsLine text old new status
+abbrev pub flow_text : FlowTest → List ℕ
+flow_text test = judged_text (judged_verdict (flow_verdict test.class test.qp test.q test.reference test.indicated)) ++ codes "\n"

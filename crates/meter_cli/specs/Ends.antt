@@ -6,7 +6,7 @@ use Rattle.run_engine.specs.declared.Ended.{Ended}
 use Rattle.run_engine.specs.Dry.{EndsWithoutMemory}
 use Rattle.meter_cli.specs.Status.{status_of}
 use Rattle.meter_cli.specs.declared.job.Job.{Job}
-use Rattle.meter_cli.specs.declared.job.Job.TheVariants.{Init, Run, Dry, Show, Slots, Temp, Water, Coef, BenchCalc, BenchPair, BenchFlow, Gen, Cert, ReadMbus, ReadOptical}
+use Rattle.meter_cli.specs.declared.job.Job.TheVariants.{Init, Run, Dry, Show, Slots, Ask, Cert, ReadMbus, ReadOptical}
 use Rattle.meter_cli.specs.declared.status.Status.{Status}
 use Rattle.meter_cli.specs.declared.status.Status.TheVariants.{Done, Config, Memory, Read, Write, Unformatted, Foreign, Formatted, OutOfMemory, Cut, NotRising, BadReadout}
 
@@ -44,13 +44,7 @@ EndsBy Run status = (ended : Ended) × (status ≡ status_of ended)
 EndsBy Dry status = (ended : Ended) × EndsWithoutMemory ended × (status ≡ status_of ended)
 EndsBy Show status = EndsShow status
 EndsBy Slots status = EndsShow status
-EndsBy (Temp sensor r) status = EndsLine status
-EndsBy (Water p t) status = EndsLine status
-EndsBy (Coef place p tf tr) status = EndsLine status
-EndsBy (BenchCalc sensor place p dmin rf rr litres energy) status = EndsLine status
-EndsBy (BenchPair sensor dmin tf tr rf rr) status = EndsLine status
-EndsBy (BenchFlow class qp q reference indicated) status = EndsLine status
-EndsBy (Gen seed count) status = EndsLine status
+EndsBy (Ask query) status = EndsLine status
 EndsBy (Cert p) status = EndsCert status
 EndsBy ReadMbus status = EndsRead status
 EndsBy ReadOptical status = EndsRead status

@@ -3,14 +3,11 @@ use Rattle.std.specs.Prelude.{◌≡◌, ℕ, zero, suc, List, [], ◌∷◌, �
 use Rattle.std.specs.Fmt.{decimal}
 use Rattle.metering_model.specs.Events.{Event, Kept}
 use Rattle.metering_model.specs.Records.{MeterRecord, StandsFor, record_after}
-use Rattle.metering_model.specs.Integral.{AllFitClosely}
-use Rattle.metering_model.specs.Near.{AreNear}
+use Rattle.integral_model.specs.Integral.{AllFitClosely}
+use Rattle.integral_model.specs.Near.{AreNear}
 use Rattle.generator_model.specs.Generated.{event_at}
-use Rattle.journal_model.specs.Texts.{shown}
+use Rattle.answer_model.specs.Texts.{shown}
 use Rattle.run_engine.specs.Dry.{dry_opening, dry_settings}
-use Rattle.trace_model.specs.Trace.{Trace}
-use Rattle.meter_cli.specs.Puts.{PutsLine}
-use Rattle.meter_cli.specs.declared.status.Status.{Status}
 
 -- the first n events that a number generates, in order
 unfoldable pub first_events : (seed n : ℕ) → List Event
@@ -35,9 +32,3 @@ pub record IsGenText (seed count : ℕ) (text : List ℕ) : Type 0 where
   pub keeps : KeepsEvents seed count kept
   pub near : AreNear dry_settings dry_opening kept
   pub is : text ≡ codes "gen " ++ decimal count ++ codes " " ++ shown dry_settings (record_after dry_settings dry_opening kept) ++ codes "\n"
-
--- what `gen` leaves
-pub record GenLeaves (seed count : ℕ) (old new : Trace) (status : Status) : Type 0 where
-  pub text : List ℕ
-  pub is : IsGenText seed count text
-  pub puts : PutsLine text old new status

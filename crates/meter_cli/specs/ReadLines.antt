@@ -4,7 +4,7 @@ use Rattle.std.specs.Fmt.{decimal, signed_decimal}
 use Rattle.std.specs.List.{All}
 use Rattle.calendar_model.specs.Texts.{IsDayText, two_digits}
 use Rattle.display_model.specs.Display.{eight_digits, pointed}
-use Rattle.heat_model.specs.Heat.{Place, Flow, Return}
+use Rattle.parts_model.specs.Place.{Place, Flow, Return}
 use Rattle.reading_model.specs.Fields.{Kind, Energy, Volume, FlowTemp, ReturnTemp, Difference, Date, Reading, Telegram, Number, Shown, Message}
 
 -- ---- telegrams

@@ -7,15 +7,17 @@ use Rattle.trace_model.specs.Trace.{Trace}
 use Rattle.accept_model.specs.Keys.{name_of}
 use Rattle.meter_config.specs.declared.fault.ConfigFault.{ConfigFault}
 use Rattle.meter_config.specs.declared.fault.ConfigFault.TheVariants as fault
-use Rattle.register_store.specs.declared.store_fault.StoreFault.{StoreFault}
-use Rattle.register_store.specs.declared.store_fault.StoreFault.TheVariants as store
+use Rattle.register_store.specs.declared.format_fault.FormatFault.{FormatFault}
+use Rattle.register_store.specs.declared.format_fault.FormatFault.TheVariants as format
+use Rattle.register_store.specs.declared.unreadable.Unreadable.{Unreadable}
+use Rattle.register_store.specs.declared.unreadable.Unreadable.TheVariants as reading
 use Rattle.event_script.specs.declared.LineFault.{LineFault}
 use Rattle.event_script.specs.declared.LineFault.TheVariants.{Grammar, DateBack, PulsesFull, EventsFull, TooLong, TooMany, NotDry}
 use Rattle.run_engine.specs.declared.Ended.{Ended}
 use Rattle.run_engine.specs.declared.Ended.TheVariants as ended
 use Rattle.run_engine.specs.Dry.{dry_opening, dry_setup}
-use Rattle.run_engine.specs.Ran.{Ran}
-use Rattle.run_engine.specs.Run.{RunLeaves}
+use Rattle.run_engine.specs.Outcome.{Outcome}
+use Rattle.run_engine.specs.OutcomeOnMemory.{OutcomeByMemory}
 use Rattle.memory_model.specs.Stored.{Stored}
 use Rattle.meter_cli.specs.declared.status.Status.{Status}
 use Rattle.meter_cli.specs.declared.status.Status.TheVariants.{Done, Usage, Config, Line, Memory, Read, Write, Unformatted, Foreign, Formatted, OutOfMemory, Cut, NotRising, BadReadout}
@@ -39,25 +41,29 @@ text_status (fault.Wrong key) = Config (fault.Wrong key)
 text_status (fault.Unknown place) = Config (fault.Unknown place)
 text_status fault.OutOfMemory = OutOfMemory
 
--- the status of a memory that refuses
-abbrev pub memory_status : StoreFault → Status
-memory_status (store.Unformatted byte) = Unformatted byte
-memory_status (store.Foreign at) = Foreign at
-memory_status store.Formatted = Formatted
-memory_status store.Memory = Memory
-memory_status store.Cut = Cut
+-- the status of a memory that could not be read
+abbrev pub unreadable_status : Unreadable → Status
+unreadable_status (reading.Unformatted byte) = Unformatted byte
+unreadable_status (reading.Foreign at) = Foreign at
+unreadable_status reading.Memory = Memory
+
+-- the status of a memory that could not be formatted
+abbrev pub format_status : FormatFault → Status
+format_status format.Formatted = Formatted
+format_status format.Memory = Memory
+format_status format.Cut = Cut
 
 -- what `dry` leaves of a script at this status
 pub record DryLeaves (script : List ℕ) (trace : Trace) (status : Status) : Type 0 where
   pub ended : Ended
   pub is : status ≡ status_of ended
-  pub ran : Ran dry_setup dry_opening script trace ended
+  pub ran : Outcome dry_setup dry_opening script trace ended
 
 -- what `run` leaves of a script at this status, by what the memory stood for at its start
 pub record RunEnds (memory : Stored) (script : List ℕ) (trace : Trace) (status : Status) : Type 0 where
   pub ended : Ended
   pub is : status ≡ status_of ended
-  pub leaves : RunLeaves memory script trace ended
+  pub leaves : OutcomeByMemory memory script trace ended
 
 -- each line was answered, or one was refused
 abbrev pub IsDoneOrLine : Status → Type 0

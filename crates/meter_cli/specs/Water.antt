@@ -5,9 +5,6 @@ use Rattle.number_model.specs.Fraction.{Fraction, ◌≤ℚ◌}
 use Rattle.platinum_model.specs.Element.{microdegrees}
 use Rattle.water_model.specs.Decimal.{decimal, minus}
 use Rattle.water_model.specs.Water.{volume, enthalpy}
-use Rattle.trace_model.specs.Trace.{Trace}
-use Rattle.meter_cli.specs.Puts.{PutsLine}
-use Rattle.meter_cli.specs.declared.status.Status.{Status}
 
 -- lo and hi, in units of 10^-e, enclose x and are at most 1,002 apart
 pub record AreDecimalEnds (e : ℕ) (lo hi : ℤ) (x : Fraction) : Type 0 where
@@ -27,9 +24,3 @@ pub record IsWaterText (p t : ℕ) (text : List ℕ) : Type 0 where
   pub enthalpy_ends : AreDecimalEnds 9 h_lo h_hi (enthalpy p (microdegrees t))
   pub volume_closer : v_hi ≤ℤ (v_lo +ℤ pos 269)
   pub enthalpy_closer : h_hi ≤ℤ (h_lo +ℤ pos 28)
-
--- what `water` leaves
-pub record WaterLeaves (p t : ℕ) (old new : Trace) (status : Status) : Type 0 where
-  pub text : List ℕ
-  pub is : IsWaterText p t text
-  pub puts : PutsLine text old new status

@@ -2,6 +2,7 @@
 ghost use Rattle.std.specs.Prelude.{◌≡◌, ◌≤◌, ◌<◌, length};
 ghost use Rattle.slope_model.specs.Slope.{EnthalpyRises};
 ghost use Rattle.meter_board.specs.Causes.{Rose};
+ghost use Rattle.meter_cli.specs.Command.{IsPressure};
 ghost use Rattle.meter_cli.specs.Cert.{CertLeaves, slope_text};
 ghost use Rattle.meter_cli.specs.Ends.{EndsCert};
 
@@ -21,12 +22,11 @@ const SEGMENTS: u8 = 180;
 /// Puts for each degree from 0 to 180 °C the range of the slope of the enthalpy of water at 1,100 to 4,000 kPa, in
 /// 10^-9 kJ/(kg K), up to the first degree in which it may fall, and then `yes`: the enthalpy rises everywhere.
 pub fn cert<B: Board>(board: &mut B, p_kpa: u32) -> Status
-    requires low { 1100 ≤ p_kpa }
-    requires high { p_kpa ≤ 4000 }
+    requires { IsPressure p_kpa }
     ensures leaves { B.tells → CertLeaves p_kpa (B.trace board.old) (B.trace board.new) result }
     ensures rises { result ≡ Status.Done → EnthalpyRises p_kpa }
     ensures memory_untouched { B.memory_calls board.new ≡ B.memory_calls board.old }
-    ensures write { result ≡ Status.Write → Rose (B.output_faults board.old) (B.output_faults board.new) }
+    ensures write { result ≡ Status.Write → Rose (B.faults board.old).output (B.faults board.new).output }
     ensures kind { EndsCert result }
 {
     let pressure = PressureVariable::at(p_kpa);

@@ -1,55 +1,42 @@
 //! The command `gen`.
-ghost use Rattle.std.specs.Prelude.{◌≡◌, ◌⊎◌, ◌≤◌, ◌<◌, ◌++◌, None, codes, length};
+ghost use Rattle.std.specs.Prelude.{◌≡◌, ◌≤◌, ◌<◌, ◌++◌, None, codes, length};
 ghost use Rattle.std.specs.Fmt.{decimal};
-ghost use Rattle.metering_model.specs.Integral.{TakesEvent};
-ghost use Rattle.journal_model.specs.Faults.{event_fault};
-ghost use Rattle.journal_model.specs.Texts.{shown};
+ghost use Rattle.integral_model.specs.Integral.{TakesEvent};
+ghost use Rattle.answer_model.specs.Faults.{event_fault};
+ghost use Rattle.answer_model.specs.Texts.{shown};
 ghost use Rattle.billing_memory.specs.Records.{record_view};
 ghost use Rattle.event_script.specs.Views.{IsEvent, event_view};
-ghost use Rattle.meter_board.specs.Causes.{Rose};
 ghost use Rattle.meter_config.specs.Views.{settings_of};
 ghost use Rattle.run_engine.specs.Dry.{dry_opening, dry_settings};
-ghost use Rattle.meter_cli.specs.Gen.{GenLeaves, IsGenText, StandsForEvents};
+ghost use Rattle.meter_cli.specs.Command.{IsLoad, max_events};
+ghost use Rattle.meter_cli.specs.Gen.{IsGenText, StandsForEvents};
 
-use crate::puts::put_line;
-use crate::show_lines::{LINE_ROOM, push_register};
-use crate::status::Status;
+use crate::job::Load;
+use crate::line::LINE_ROOM;
+use crate::show_lines::push_register;
 use arrayvec::ArrayString;
 use billing_memory::MeterRecord;
 use event_script::Event;
 use itoa::Buffer;
 use load_gen::Script;
-use meter_board::Board;
 use meter_config::Config;
 use meter_core::Meter;
 
-/// Meters the first `count` events, at most 1,000,000, that `seed` generates, in the standard configuration, from
-/// a record that has counted nothing. Puts `gen COUNT` and the number of events, the litres, the energy and its
-/// bound in millijoules.
-pub fn generate<B: Board>(board: &mut B, seed: u64, count: u32) -> Status
-    requires { count ≤ 1000000 }
-    ensures leaves { B.tells → GenLeaves seed count (B.trace board.old) (B.trace board.new) result }
-    ensures memory_untouched { B.memory_calls board.new ≡ B.memory_calls board.old }
-    ensures write { result ≡ Status.Write → Rose (B.output_faults board.old) (B.output_faults board.new) }
-    ensures kind { (result ≡ Status.Done) ⊎ (result ≡ Status.Write) }
-{
-    let line = gen_line(seed, count);
-    put_line(board, line.as_str().as_bytes())
-}
-
+/// Meters generated events in the standard configuration, from a record that has counted nothing: `gen COUNT` and the
+/// number of events, the litres, the energy and its bound in millijoules.
 #[tactic(auto, using(crate::proofs::Events::near))]
-fn gen_line(seed: u64, count: u32) -> ArrayString<LINE_ROOM>
-    requires { count ≤ 1000000 }
-    ensures text { IsGenText seed count result.bytes }
+pub fn gen_line(load: Load) -> ArrayString<LINE_ROOM>
+    requires { IsLoad load }
+    ensures text { IsGenText load.seed load.count result.bytes }
     ensures some { 0 < length result.bytes }
 {
-    let meter = meter_after(seed, count);
-    record_line(count, meter.config(), meter.state())
+    let meter = meter_after(load.seed, load.count);
+    record_line(load.count, meter.config(), meter.state())
 }
 
 // A meter that has taken the first `count` events.
 fn meter_after(seed: u64, count: u32) -> Meter
-    requires { count ≤ 1000000 }
+    requires { count ≤ max_events }
     ensures settings { settings_of result.config ≡ dry_settings }
     ensures events { StandsForEvents seed count (record_view result.record) }
 {

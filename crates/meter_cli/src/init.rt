@@ -11,10 +11,10 @@ ghost use Rattle.meter_board.specs.Causes.{Rose};
 ghost use Rattle.register_store.specs.Formatted.{UnformattedOr};
 ghost use Rattle.meter_cli.specs.Ends.{EndsFormat, EndsText};
 ghost use Rattle.meter_cli.specs.Init.{InitAnswers, InitLeaves, first_record, init_line};
-ghost use Rattle.meter_cli.specs.Status.{memory_status, text_status};
+ghost use Rattle.meter_cli.specs.Status.{format_status, text_status};
 
 use crate::puts::put_line;
-use crate::status::{Status, memory_status, text_status};
+use crate::status::{Status, format_status, text_status};
 use arrayvec::ArrayString;
 use billing_memory::MeterRecord;
 use energy_register::digits_text;
@@ -42,9 +42,9 @@ pub fn init<S: Source, B: Board>(alloc: Global, source: &mut S, board: &mut B) -
     ensures base { B.tells → base_of (B.trace board.new) ≡ base_of (B.trace board.old) }
     ensures ends { EndsText result ⊎ EndsFormat result }
     ensures read { result ≡ Status.Read → Rose (S.faults source.old) (S.faults source.new) }
-    ensures memory { result ≡ Status.Memory → Rose (B.memory_faults board.old) (B.memory_faults board.new) }
-    ensures cut { result ≡ Status.Cut → Rose (B.cuts board.old) (B.cuts board.new) }
-    ensures write { result ≡ Status.Write → Rose (B.output_faults board.old) (B.output_faults board.new) }
+    ensures memory { result ≡ Status.Memory → Rose (B.faults board.old).memory (B.faults board.new).memory }
+    ensures cut { result ≡ Status.Cut → Rose (B.faults board.old).cuts (B.faults board.new).cuts }
+    ensures write { result ≡ Status.Write → Rose (B.faults board.old).output (B.faults board.new).output }
 {
     match told_config(alloc, source) {
         Ok(config) => hold(board, &config),
@@ -98,13 +98,13 @@ fn hold<B: Board>(board: &mut B, config: &Config) -> Status
     ensures moments { B.tells → Grew (Leaves (UnformattedOr (config_view config.now) (first_record (config_view config.now)))) (B.trace board.old) (B.trace board.new) }
     ensures base { B.tells → base_of (B.trace board.new) ≡ base_of (B.trace board.old) }
     ensures ends { EndsFormat result }
-    ensures memory { result ≡ Status.Memory → Rose (B.memory_faults board.old) (B.memory_faults board.new) }
-    ensures cut { result ≡ Status.Cut → Rose (B.cuts board.old) (B.cuts board.new) }
-    ensures write { result ≡ Status.Write → Rose (B.output_faults board.old) (B.output_faults board.new) }
+    ensures memory { result ≡ Status.Memory → Rose (B.faults board.old).memory (B.faults board.new).memory }
+    ensures cut { result ≡ Status.Cut → Rose (B.faults board.old).cuts (B.faults board.new).cuts }
+    ensures write { result ≡ Status.Write → Rose (B.faults board.old).output (B.faults board.new).output }
 {
     match format(board, config, &opening(config)) {
         Ok(()) => put_line(board, line(config).as_str().as_bytes()),
-        Err(fault) => memory_status(fault),
+        Err(fault) => format_status(fault),
     }
 }
 

@@ -7,7 +7,7 @@ ghost use Rattle.readout_reader.specs.Views.{message_view, number_view, shown_li
 ghost use Rattle.meter_cli.specs.Show.{NoneEmpty, bytes_of};
 ghost use Rattle.meter_cli.specs.ReadLines.{AreFirstLines, AreMessageLines, AreShownLines, IsDisplay, IsLegible, IsShowable, IsShownLine, number_text};
 
-use crate::show_lines::{LINE_ROOM, labelled};
+use crate::line::{LINE_ROOM, labelled};
 use arrayvec::{ArrayString, ArrayVec};
 use energy_register::digits_text;
 use readout_reader::{Number, OpticalFields, Shown};

@@ -3,58 +3,38 @@ ghost use Rattle.std.specs.Prelude.{◌≡◌, ◌⊎◌, ◌*◌, ◌+◌, ◌-
 ghost use Rattle.std.specs.Fmt.{signed_decimal};
 ghost use Rattle.number_model.specs.Rounding.{floor_div, ceil_div};
 ghost use Rattle.pt_curve.specs.Curve.{element};
-ghost use Rattle.meter_board.specs.Causes.{Rose};
-ghost use Rattle.sensor_pair.specs.Place.{place_view};
-ghost use Rattle.meter_cli.specs.Coef.{CoefLeaves, IsCoefText};
-ghost use Rattle.meter_cli.specs.Temp.{IsTempText, TempLeaves, element_of};
-ghost use Rattle.meter_cli.specs.Water.{IsWaterText, WaterLeaves};
+ghost use Rattle.meter_parts.specs.Views.{place_view};
+ghost use Rattle.meter_cli.specs.Command.{IsHeatCoefficient, IsWaterState};
+ghost use Rattle.meter_cli.specs.Coef.{IsCoefText};
+ghost use Rattle.meter_cli.specs.Temp.{IsTempText, element_of};
+ghost use Rattle.meter_cli.specs.Water.{IsWaterText};
 
-use crate::puts::put_line;
-use crate::status::Status;
+use crate::job::{HeatCoefficient, Sample, WaterState};
+use crate::line::{LINE_ROOM, ended, range_line};
 use arrayvec::ArrayString;
-use heat_coeff::{Factor, coeff};
+use heat_coeff::coeff;
 use if97_region1::Water;
 use interval_num::{Enc, Span};
 use itoa::Buffer;
-use meter_board::Board;
-use pt_curve::{Curve, Sensor};
-use sensor_pair::Place;
-
-/// The room of a line of `temp`.
-const TEMP_ROOM: usize = 48;
-
-/// The room of a line of `water`.
-const WATER_ROOM: usize = 176;
-
-/// The room of a line of `k`.
-const COEF_ROOM: usize = 88;
+use pt_curve::Curve;
 
 /// The units of a line of `water` in one m³/kg, and in one kJ/kg.
 const VOLUME_UNITS: i128 = 1_000_000_000_000_000;
 
 const ENTHALPY_UNITS: i128 = 1_000_000_000;
 
-/// Puts the whole temperature of a sample in microdegrees Celsius, or `out` where it is out of range.
-pub fn temp<B: Board>(board: &mut B, sensor: Sensor, r: u32) -> Status
-    ensures leaves { B.tells → TempLeaves sensor r (B.trace board.old) (B.trace board.new) result }
-    ensures memory_untouched { B.memory_calls board.new ≡ B.memory_calls board.old }
-    ensures write { result ≡ Status.Write → Rose (B.output_faults board.old) (B.output_faults board.new) }
-    ensures kind { (result ≡ Status.Done) ⊎ (result ≡ Status.Write) }
-{
-    let line = temp_line(sensor, r);
-    put_line(board, line.as_str().as_bytes())
-}
-
-fn temp_line(sensor: Sensor, r: u32) -> ArrayString<TEMP_ROOM>
-    ensures text { IsTempText (element_of sensor) r result.bytes }
+/// The whole temperature of a sample in microdegrees Celsius, or `out` where it is out of range.
+#[tactic(auto, using(crate::proofs::Temps::temp_of))]
+pub fn temp_line(sample: Sample) -> ArrayString<LINE_ROOM>
+    ensures text { IsTempText (element_of sample.sensor) sample.r result.bytes }
     ensures some { 0 < length result.bytes }
 {
-    let curve = Curve::nominal(sensor);
-    sample_line(&curve, r)
+    let curve = Curve::nominal(sample.sensor);
+    sample_line(&curve, sample.r)
 }
 
 // The line of a sample of a sensor with this curve.
-fn sample_line(curve: &Curve, r: u32) -> ArrayString<TEMP_ROOM>
+fn sample_line(curve: &Curve, r: u32) -> ArrayString<LINE_ROOM>
     ensures text { IsTempText (element curve.now) r result.bytes }
     ensures some { 0 < length result.bytes }
 {
@@ -65,42 +45,14 @@ fn sample_line(curve: &Curve, r: u32) -> ArrayString<TEMP_ROOM>
     }
 }
 
-// A text with the end of its line.
-fn ended(text: &str) -> ArrayString<TEMP_ROOM>
-    requires { length text.now ≤ 40 }
-    ensures text { result.bytes ≡ text.now ++ codes "\n" }
+/// The ends of the specific volume in 10^-15 m³/kg, and of the specific enthalpy in 10^-9 kJ/kg (IAPWS-IF97, region 1).
+pub fn water_line(state: WaterState) -> ArrayString<LINE_ROOM>
+    requires { IsWaterState state }
+    ensures text { IsWaterText state.p_kpa state.t_udeg result.bytes }
     ensures some { 0 < length result.bytes }
 {
-    let mut line = ArrayString::new();
-    line.push_str(text);
-    line.push_str("\n");
-    line
-}
-
-/// Puts the ends of the specific volume in 10^-15 m³/kg, and of the specific enthalpy in 10^-9 kJ/kg, of
-/// water at 1,100 to 4,000 kPa and 0 to 180,000,000 microdegrees Celsius (IAPWS-IF97, region 1).
-pub fn water<B: Board>(board: &mut B, p_kpa: u32, t_udeg: u32) -> Status
-    requires low { 1100 ≤ p_kpa }
-    requires high { p_kpa ≤ 4000 }
-    requires temperature { t_udeg ≤ 180000000 }
-    ensures leaves { B.tells → WaterLeaves p_kpa t_udeg (B.trace board.old) (B.trace board.new) result }
-    ensures memory_untouched { B.memory_calls board.new ≡ B.memory_calls board.old }
-    ensures write { result ≡ Status.Write → Rose (B.output_faults board.old) (B.output_faults board.new) }
-    ensures kind { (result ≡ Status.Done) ⊎ (result ≡ Status.Write) }
-{
-    let line = water_line(p_kpa, t_udeg);
-    put_line(board, line.as_str().as_bytes())
-}
-
-fn water_line(p_kpa: u32, t_udeg: u32) -> ArrayString<WATER_ROOM>
-    requires low { 1100 ≤ p_kpa }
-    requires high { p_kpa ≤ 4000 }
-    requires temperature { t_udeg ≤ 180000000 }
-    ensures text { IsWaterText p_kpa t_udeg result.bytes }
-    ensures some { 0 < length result.bytes }
-{
-    let water = Water::new(p_kpa).unwrap();
-    let t_ndeg = 1000 * u64::from(t_udeg);
+    let water = Water::new(state.p_kpa).unwrap();
+    let t_ndeg = 1000 * u64::from(state.t_udeg);
     let at = Span {
         lo: t_ndeg,
         hi: t_ndeg,
@@ -139,7 +91,7 @@ fn enthalpy_ends(h: Enc<48>) -> Ends
     }
 }
 
-fn ends_line(v: Ends, h: Ends) -> ArrayString<WATER_ROOM>
+fn ends_line(v: Ends, h: Ends) -> ArrayString<LINE_ROOM>
     ensures text { result.bytes ≡ codes "v " ++ signed_decimal v.lo ++ codes " " ++ signed_decimal v.hi ++ codes " h " ++ signed_decimal h.lo ++ codes " " ++ signed_decimal h.hi ++ codes "\n" }
     ensures some { 0 < length result.bytes }
 {
@@ -157,45 +109,13 @@ fn ends_line(v: Ends, h: Ends) -> ArrayString<WATER_ROOM>
     line
 }
 
-/// Puts the ends of the heat coefficient of EN 1434-1, in 10^-6 kJ/(m³ K), of water at 1,100 to 4,000 kPa
-/// between two temperatures in microdegrees Celsius: the flow's is at most 180,000,000 and at least 10,000
-/// above the return's.
-pub fn coef<B: Board>(board: &mut B, place: Place, p_kpa: u32, tf_udeg: u32, tr_udeg: u32) -> Status
-    requires low { 1100 ≤ p_kpa }
-    requires high { p_kpa ≤ 4000 }
-    requires apart { tr_udeg + 10000 ≤ tf_udeg }
-    requires temperature { tf_udeg ≤ 180000000 }
-    ensures leaves { B.tells → CoefLeaves place p_kpa tf_udeg tr_udeg (B.trace board.old) (B.trace board.new) result }
-    ensures memory_untouched { B.memory_calls board.new ≡ B.memory_calls board.old }
-    ensures write { result ≡ Status.Write → Rose (B.output_faults board.old) (B.output_faults board.new) }
-    ensures kind { (result ≡ Status.Done) ⊎ (result ≡ Status.Write) }
-{
-    let line = coef_line(place, p_kpa, tf_udeg, tr_udeg);
-    put_line(board, line.as_str().as_bytes())
-}
-
-fn coef_line(place: Place, p_kpa: u32, tf_udeg: u32, tr_udeg: u32) -> ArrayString<COEF_ROOM>
-    requires low { 1100 ≤ p_kpa }
-    requires high { p_kpa ≤ 4000 }
-    requires apart { tr_udeg + 10000 ≤ tf_udeg }
-    requires temperature { tf_udeg ≤ 180000000 }
-    ensures text { IsCoefText (place_view place) p_kpa tf_udeg tr_udeg result.bytes }
+/// The ends of the heat coefficient of EN 1434-1, in 10^-6 kJ/(m³ K).
+pub fn coef_line(k: HeatCoefficient) -> ArrayString<LINE_ROOM>
+    requires { IsHeatCoefficient k }
+    ensures text { IsCoefText (place_view k.place) k.p_kpa k.tf_udeg k.tr_udeg result.bytes }
     ensures some { 0 < length result.bytes }
 {
-    let water = Water::new(p_kpa).unwrap();
-    factor_line(coeff(&water, place, tf_udeg, tr_udeg))
-}
-
-fn factor_line(k: Factor) -> ArrayString<COEF_ROOM>
-    ensures text { result.bytes ≡ codes "k " ++ signed_decimal k.lo ++ codes " " ++ signed_decimal k.hi ++ codes "\n" }
-    ensures some { 0 < length result.bytes }
-{
-    let mut digits = Buffer::new();
-    let mut line = ArrayString::new();
-    line.push_str("k ");
-    line.push_str(digits.format(k.lo));
-    line.push_str(" ");
-    line.push_str(digits.format(k.hi));
-    line.push_str("\n");
-    line
+    let water = Water::new(k.p_kpa).unwrap();
+    let factor = coeff(&water, k.place, k.tf_udeg, k.tr_udeg);
+    range_line("k ", factor.lo, factor.hi)
 }

@@ -14,7 +14,7 @@ pub fn put_line<B: Board>(board: &mut B, line: &[u8]) -> Status
     requires { 0 < length line.now }
     ensures puts { B.tells → PutsLine line.now (B.trace board.old) (B.trace board.new) result }
     ensures memory_untouched { B.memory_calls board.new ≡ B.memory_calls board.old }
-    ensures write { result ≡ Status.Write → Rose (B.output_faults board.old) (B.output_faults board.new) }
+    ensures write { result ≡ Status.Write → Rose (B.faults board.old).output (B.faults board.new).output }
     ensures kind { EndsLine result }
 {
     match board.put(line) {
@@ -28,7 +28,7 @@ pub fn put_lines<B: Board, const ROOM: usize>(board: &mut B, lines: &[ArrayStrin
     requires { NoneEmpty lines.now }
     ensures puts { B.tells → PutsLines (bytes_of lines.now) (B.trace board.old) (B.trace board.new) result }
     ensures memory_untouched { B.memory_calls board.new ≡ B.memory_calls board.old }
-    ensures write { result ≡ Status.Write → Rose (B.output_faults board.old) (B.output_faults board.new) }
+    ensures write { result ≡ Status.Write → Rose (B.faults board.old).output (B.faults board.new).output }
     ensures kind { EndsLine result }
 {
     for line in lines {

@@ -36,7 +36,7 @@ pub fn mbus<S: Source, B: Board>(source: &mut S, board: &mut B) -> Status
     ensures untouched { EndsUnread result → board.new ≡ board.old }
     ensures memory_untouched { B.memory_calls board.new ≡ B.memory_calls board.old }
     ensures read { result ≡ Status.Read → Rose (S.faults source.old) (S.faults source.new) }
-    ensures write { result ≡ Status.Write → Rose (B.output_faults board.old) (B.output_faults board.new) }
+    ensures write { result ≡ Status.Write → Rose (B.faults board.old).output (B.faults board.new).output }
     ensures ends { EndsRead result }
 {
     let mut bytes = [0; TELEGRAM_BYTES];
@@ -60,7 +60,7 @@ pub fn optical<S: Source, B: Board>(source: &mut S, board: &mut B) -> Status
     ensures untouched { EndsUnread result → board.new ≡ board.old }
     ensures memory_untouched { B.memory_calls board.new ≡ B.memory_calls board.old }
     ensures read { result ≡ Status.Read → Rose (S.faults source.old) (S.faults source.new) }
-    ensures write { result ≡ Status.Write → Rose (B.output_faults board.old) (B.output_faults board.new) }
+    ensures write { result ≡ Status.Write → Rose (B.faults board.old).output (B.faults board.new).output }
     ensures ends { EndsRead result }
 {
     let mut bytes = [0; MESSAGE_BYTES];

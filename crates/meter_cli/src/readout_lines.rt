@@ -4,17 +4,17 @@ ghost use Rattle.std.specs.Fmt.{decimal};
 ghost use Rattle.std.specs.List.{All};
 ghost use Rattle.arrayvec.specs.ArrayVec.{array_vec_len};
 ghost use Rattle.readout_reader.specs.Views.{rec_view, recs_view, telegram_view};
-ghost use Rattle.sensor_pair.specs.Place.{place_view};
+ghost use Rattle.meter_parts.specs.Views.{place_view};
 ghost use Rattle.meter_cli.specs.Show.{NoneEmpty, bytes_of};
 ghost use Rattle.meter_cli.specs.ReadLines.{AreRecordLines, AreTelegramLines, IsDateLine, IsDated, IsDayNumber, IsLineOf, IsReadable, header_lines, more_lines, place_word, value_line};
 
-use crate::show_lines::{LINE_ROOM, labelled};
+use crate::line::{LINE_ROOM, labelled};
 use arrayvec::{ArrayString, ArrayVec};
 use billing_memory::Day;
 use energy_register::digits_text;
 use itoa::Buffer;
+use meter_parts::Place;
 use readout_reader::{Kind, MbusFields, Rec};
-use sensor_pair::Place;
 
 /// The most lines of a telegram: seven, one for each record, and one where a further telegram follows.
 const MAX_LINES: usize = 72;

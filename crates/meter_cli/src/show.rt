@@ -6,7 +6,7 @@ ghost use Rattle.meter_cli.specs.Show.{ShowLeaves};
 
 use crate::puts::put_lines;
 use crate::show_lines::show_lines;
-use crate::status::{Status, memory_status};
+use crate::status::{Status, unreadable_status};
 use meter_board::Board;
 use register_store::recover;
 
@@ -14,8 +14,8 @@ use register_store::recover;
 /// volume, the energy, the register, the faulty pulses, the set day's entry, and the month entries, oldest first.
 pub fn show<B: Board>(board: &mut B) -> Status
     ensures leaves { B.tells → ShowLeaves (B.reads board.old) (B.trace board.old) (B.trace board.new) result }
-    ensures memory { result ≡ Status.Memory → Rose (B.memory_faults board.old) (B.memory_faults board.new) }
-    ensures write { result ≡ Status.Write → Rose (B.output_faults board.old) (B.output_faults board.new) }
+    ensures memory { result ≡ Status.Memory → Rose (B.faults board.old).memory (B.faults board.new).memory }
+    ensures write { result ≡ Status.Write → Rose (B.faults board.old).output (B.faults board.new).output }
     ensures ends { EndsShow result }
 {
     match recover(board) {
@@ -23,6 +23,6 @@ pub fn show<B: Board>(board: &mut B) -> Status
             board,
             show_lines(&config, &meter_record).as_slice(),
         ),
-        Err(fault) => memory_status(fault),
+        Err(reason) => unreadable_status(reason),
     }
 }

@@ -1,6 +1,6 @@
 //! The lines that show what a memory holds.
 ghost use Rattle.std.specs.Prelude.{◌≡◌, ◌<◌, ◌≤◌, ◌+◌, ◌++◌, List, ℕ, codes, length};
-ghost use Rattle.journal_model.specs.Texts.{register_shown};
+ghost use Rattle.answer_model.specs.Texts.{register_shown};
 ghost use Rattle.show_model.specs.Lines.{AreMonthLines, AreShowLines, AreStateLines, IsEntryLine, IsSetLine, energy_display, volume_display};
 ghost use Rattle.energy_register.specs.Register.{register_view};
 ghost use Rattle.billing_memory.specs.Entries.{entries_view, entry_view, set_day_view};
@@ -9,14 +9,12 @@ ghost use Rattle.meter_config.specs.Views.{config_view};
 ghost use Rattle.arrayvec.specs.ArrayVec.{array_vec_len};
 ghost use Rattle.meter_cli.specs.Show.{NoneEmpty, bytes_of};
 
+use crate::line::{LINE_ROOM, labelled};
 use arrayvec::{ArrayString, ArrayVec};
 use billing_memory::{Entry, MeterRecord};
 use energy_register::{Register, digits_text};
 use itoa::Buffer;
 use meter_config::Config;
-
-/// The room of a line.
-pub const LINE_ROOM: usize = 192;
 
 /// The most lines: eight, and one for each month entry.
 const MAX_LINES: usize = 32;
@@ -70,20 +68,6 @@ fn push_months(
     for entry in months {
         lines.push(entry_line("month", config, entry));
     }
-}
-
-/// A text between two others, of which the second ends the line.
-pub fn labelled(name: &str, text: &str, end: &str) -> ArrayString<LINE_ROOM>
-    requires name { length name.now ≤ 10 }
-    requires text { length text.now ≤ 40 }
-    requires end { length end.now ≤ 10 }
-    ensures { result.bytes ≡ name.now ++ text.now ++ end.now }
-{
-    let mut line = ArrayString::new();
-    line.push_str(name);
-    line.push_str(text);
-    line.push_str(end);
-    line
 }
 
 // What the display shows of the volume in m³.

@@ -7,9 +7,9 @@ ghost use Rattle.meter_cli.specs.Ends.{EndsShow};
 ghost use Rattle.meter_cli.specs.Show.{NoneEmpty, bytes_of};
 ghost use Rattle.meter_cli.specs.Slots.{SlotsLeaves, gate_text, slot_text, slots_lines};
 
+use crate::line::LINE_ROOM;
 use crate::puts::put_lines;
-use crate::show_lines::LINE_ROOM;
-use crate::status::{Status, memory_status};
+use crate::status::{Status, unreadable_status};
 use arrayvec::ArrayString;
 use itoa::Buffer;
 use meter_board::Board;
@@ -20,13 +20,13 @@ use state_codec::Foreign;
 /// the number of events of its record, or the offset in the memory of its first field that breaks its rule.
 pub fn slots<B: Board>(board: &mut B) -> Status
     ensures leaves { B.tells → SlotsLeaves (B.reads board.old) (B.trace board.old) (B.trace board.new) result }
-    ensures memory { result ≡ Status.Memory → Rose (B.memory_faults board.old) (B.memory_faults board.new) }
-    ensures write { result ≡ Status.Write → Rose (B.output_faults board.old) (B.output_faults board.new) }
+    ensures memory { result ≡ Status.Memory → Rose (B.faults board.old).memory (B.faults board.new).memory }
+    ensures write { result ≡ Status.Write → Rose (B.faults board.old).output (B.faults board.new).output }
     ensures ends { EndsShow result }
 {
     match look(board) {
         Ok(slots) => put_lines(board, slots_lines(&slots).as_slice()),
-        Err(fault) => memory_status(fault),
+        Err(reason) => unreadable_status(reason),
     }
 }
 

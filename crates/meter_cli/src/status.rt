@@ -4,14 +4,14 @@ ghost use Rattle.std.specs.Char.{digit_char};
 ghost use Rattle.std.specs.Fmt.{decimal};
 ghost use Rattle.calendar_model.specs.Texts.{IsDayText};
 ghost use Rattle.accept_model.specs.Keys.{name_of};
-ghost use Rattle.meter_cli.specs.Status.{IsFaultText, IsStatusText, code_of, config_text, hex_byte, memory_status, text_status};
+ghost use Rattle.meter_cli.specs.Status.{IsFaultText, IsStatusText, code_of, config_text, format_status, hex_byte, text_status, unreadable_status};
 
 use arrayvec::ArrayString;
 use billing_memory::Day;
 use event_script::LineFault;
 use itoa::Buffer;
 use meter_config::{ConfigFault, key_name};
-use register_store::StoreFault;
+use register_store::{FormatFault, Unreadable};
 
 /// The room of a status line.
 pub const STATUS_ROOM: usize = 128;
@@ -104,16 +104,25 @@ pub fn text_status(fault: ConfigFault) -> Status
     }
 }
 
-/// The status of a memory that refuses.
-pub fn memory_status(fault: StoreFault) -> Status
-    ensures { result ≡ memory_status fault }
+/// The status of a memory that could not be read.
+pub fn unreadable_status(reason: Unreadable) -> Status
+    ensures { result ≡ unreadable_status reason }
+{
+    match reason {
+        Unreadable::Unformatted { byte } => Status::Unformatted { byte },
+        Unreadable::Foreign { at } => Status::Foreign { at },
+        Unreadable::Memory => Status::Memory,
+    }
+}
+
+/// The status of a memory that could not be formatted.
+pub fn format_status(fault: FormatFault) -> Status
+    ensures { result ≡ format_status fault }
 {
     match fault {
-        StoreFault::Unformatted { byte } => Status::Unformatted { byte },
-        StoreFault::Foreign { at } => Status::Foreign { at },
-        StoreFault::Formatted => Status::Formatted,
-        StoreFault::Memory => Status::Memory,
-        StoreFault::Cut => Status::Cut,
+        FormatFault::Formatted => Status::Formatted,
+        FormatFault::Memory => Status::Memory,
+        FormatFault::Cut => Status::Cut,
     }
 }
 

@@ -19,37 +19,30 @@ ghost use Rattle.meter_config.specs.declared.fault.ConfigFault.{ConfigFault};
 ghost use Rattle.register_store.specs.Formatted.{UnformattedOr};
 ghost use Rattle.reading_model.specs.Messages.{message_in};
 ghost use Rattle.reading_model.specs.Telegrams.{telegram_in};
-ghost use Rattle.run_engine.specs.Ran.{StopsAtRead};
-ghost use Rattle.meter_cli.specs.Bench.{CalcLeaves, PairLeaves, flow_text};
+ghost use Rattle.run_engine.specs.Outcome.{StopsAtRead};
+ghost use Rattle.meter_cli.specs.Answer.{AnswerLeaves};
 ghost use Rattle.meter_cli.specs.Cert.{CertLeaves};
-ghost use Rattle.meter_cli.specs.Coef.{CoefLeaves};
-ghost use Rattle.meter_cli.specs.Command.{PutsOneLine, ReadsNothing, UsesNoMemory, command_of, texts};
+ghost use Rattle.meter_cli.specs.Command.{ReadsNothing, UsesNoMemory, command_of, texts};
 ghost use Rattle.meter_cli.specs.Ends.{EndsBy, EndsText, EndsUnread};
-ghost use Rattle.meter_cli.specs.Gen.{GenLeaves};
 ghost use Rattle.meter_cli.specs.Init.{InitAnswers, InitLeaves, first_record};
-ghost use Rattle.meter_cli.specs.Puts.{PutsLine};
 ghost use Rattle.meter_cli.specs.Read.{ReadAnswers, ReadLeaves, read_status};
 ghost use Rattle.meter_cli.specs.ReadLines.{AreMessageLines, AreTelegramLines};
 ghost use Rattle.meter_cli.specs.Show.{ShowLeaves};
 ghost use Rattle.meter_cli.specs.Slots.{SlotsLeaves};
 ghost use Rattle.meter_cli.specs.Status.{DryLeaves, IsDoneOrLine, RunEnds, status_of};
-ghost use Rattle.meter_cli.specs.Temp.{TempLeaves};
-ghost use Rattle.meter_cli.specs.Water.{WaterLeaves};
 ghost use Rattle.meter_cli.specs.declared.job.Job.{Job};
-ghost use Rattle.pt_curve.specs.declared.sensor.Sensor.{Sensor};
+ghost use Rattle.meter_cli.specs.declared.job.Query.{Query};
 ghost use Rattle.slope_model.specs.Slope.{EnthalpyRises};
-ghost use Rattle.sensor_pair.specs.declared.place.Place.{Place};
 
-use crate::bench::{CalculatorTest, PairTest};
+use crate::answer::answer;
 use crate::cert::cert;
-use crate::generated::generate;
 use crate::init::init;
-use crate::job::{Job, command};
-use crate::physics::{coef, temp, water};
+use crate::job::Job;
+use crate::readout;
 use crate::show::show;
 use crate::slots::slots;
 use crate::status::Status;
-use crate::{bench, readout};
+use crate::words::command;
 use meter_board::{Board, Source};
 use run_engine::{Ended, dry, run};
 use std::alloc::Global;
@@ -72,14 +65,14 @@ pub fn meter<S: Source, B: Board>(
     // one is refused by the record in force; power failures do not hinder it. No more events meet a power failure than
     // the board counts cuts.
     ensures run { command_of (texts words.now) ≡ Ok Job.Run → S.tells → B.tells → RunEnds (stored (base_of (B.trace board.old))) (S.left source.old) (B.trace board.new) result }
-    ensures run_complete { (c : Configuration) (o : MeterRecord) (side : Side) → command_of (texts words.now) ≡ Ok Job.Run → S.tells → B.tells → stored (base_of (B.trace board.old)) ≡ Holds c o side → ¬ Rose (S.faults source.old) (S.faults source.new) → ¬ Rose (B.memory_faults board.old) (B.memory_faults board.new) → ¬ Rose (B.output_faults board.old) (B.output_faults board.new) → IsDoneOrLine result }
-    ensures run_few_lost { (c : Configuration) (o : MeterRecord) (side : Side) (j : Journal) → command_of (texts words.now) ≡ Ok Job.Run → S.tells → B.tells → stored (base_of (B.trace board.old)) ≡ Holds c o side → Pairs (on_memory c) o 0 at_start (lines_of (S.left source.old)) (output_lines (B.trace board.new)) j → min (B.cuts board.old + j.interrupted) (2 ^ 64 - 1) ≤ B.cuts board.new }
+    ensures run_complete { (c : Configuration) (o : MeterRecord) (side : Side) → command_of (texts words.now) ≡ Ok Job.Run → S.tells → B.tells → stored (base_of (B.trace board.old)) ≡ Holds c o side → ¬ Rose (S.faults source.old) (S.faults source.new) → ¬ Rose (B.faults board.old).memory (B.faults board.new).memory → ¬ Rose (B.faults board.old).output (B.faults board.new).output → IsDoneOrLine result }
+    ensures run_few_lost { (c : Configuration) (o : MeterRecord) (side : Side) (j : Journal) → command_of (texts words.now) ≡ Ok Job.Run → S.tells → B.tells → stored (base_of (B.trace board.old)) ≡ Holds c o side → Pairs (on_memory c) o 0 at_start (lines_of (S.left source.old)) (output_lines (B.trace board.new)) j → min ((B.faults board.old).cuts + j.interrupted) (2 ^ 64 - 1) ≤ (B.faults board.new).cuts }
     ensures run_end { command_of (texts words.now) ≡ Ok Job.Run → S.tells → B.tells → result ≡ Status.Done → S.left source.new ≡ [] }
     ensures run_delivered { command_of (texts words.now) ≡ Ok Job.Run → S.tells → B.tells → result ≡ Status.Read → StopsAtRead (S.left source.old) (S.left source.new) (length (output_lines (B.trace board.new))) }
 
     // What `dry` leaves. Where nothing failed, each line has its answer, or one is refused by the record in force.
     ensures dry { command_of (texts words.now) ≡ Ok Job.Dry → S.tells → B.tells → DryLeaves (S.left source.old) (B.trace board.new) result }
-    ensures complete { command_of (texts words.now) ≡ Ok Job.Dry → ¬ Rose (S.faults source.old) (S.faults source.new) → ¬ Rose (B.output_faults board.old) (B.output_faults board.new) → IsDoneOrLine result }
+    ensures complete { command_of (texts words.now) ≡ Ok Job.Dry → ¬ Rose (S.faults source.old) (S.faults source.new) → ¬ Rose (B.faults board.old).output (B.faults board.new).output → IsDoneOrLine result }
     ensures end { command_of (texts words.now) ≡ Ok Job.Dry → S.tells → B.tells → result ≡ Status.Done → S.left source.new ≡ [] }
     ensures delivered { command_of (texts words.now) ≡ Ok Job.Dry → S.tells → B.tells → result ≡ Status.Read → StopsAtRead (S.left source.old) (S.left source.new) (length (output_lines (B.trace board.new))) }
 
@@ -97,53 +90,47 @@ pub fn meter<S: Source, B: Board>(
 
     // At each moment of `init` the memory is unformatted, or holds the configuration with its first record.
     ensures init_moments { (c : Configuration) (p : Trace) → command_of (texts words.now) ≡ Ok Job.Init → S.tells → B.tells → accepted (S.left source.old) ≡ Ok c → slice_index (base_of (B.trace board.old)) 0 ≢ mark → IsPrefix p (B.trace board.new) → Leaves (UnformattedOr c (first_record c)) p }
-    ensures init_complete { (c : Configuration) → command_of (texts words.now) ≡ Ok Job.Init → S.tells → B.tells → accepted (S.left source.old) ≡ Ok c → slice_index (base_of (B.trace board.old)) 0 ≢ mark → ¬ Rose (S.faults source.old) (S.faults source.new) → ¬ Rose (B.memory_faults board.old) (B.memory_faults board.new) → ¬ Rose (B.output_faults board.old) (B.output_faults board.new) → ¬ Rose (B.cuts board.old) (B.cuts board.new) → (result ≡ Status.Done) ⊎ (result ≡ Status.OutOfMemory) }
+    ensures init_complete { (c : Configuration) → command_of (texts words.now) ≡ Ok Job.Init → S.tells → B.tells → accepted (S.left source.old) ≡ Ok c → slice_index (base_of (B.trace board.old)) 0 ≢ mark → ¬ Rose (S.faults source.old) (S.faults source.new) → ¬ Rose (B.faults board.old).memory (B.faults board.new).memory → ¬ Rose (B.faults board.old).output (B.faults board.new).output → ¬ Rose (B.faults board.old).cuts (B.faults board.new).cuts → (result ≡ Status.Done) ⊎ (result ≡ Status.OutOfMemory) }
 
     // What `show` leaves. Unformatted and Foreign come exactly where the memory is so, but for a fault before them.
     ensures show_leaves { command_of (texts words.now) ≡ Ok Job.Show → B.tells → ShowLeaves (B.reads board.old) (B.trace board.old) (B.trace board.new) result }
     ensures show_unformatted { (byte : ℕ) → command_of (texts words.now) ≡ Ok Job.Show → B.tells → stored (B.reads board.old) ≡ Unformatted byte → (result ≡ Status.Unformatted byte) ⊎ (result ≡ Status.Memory) }
     ensures show_foreign { (at : ℕ) → command_of (texts words.now) ≡ Ok Job.Show → B.tells → stored (B.reads board.old) ≡ Foreign at → (result ≡ Status.Foreign at) ⊎ (result ≡ Status.Memory) }
-    ensures show_complete { (c : Configuration) (r : MeterRecord) (side : Side) → command_of (texts words.now) ≡ Ok Job.Show → B.tells → stored (B.reads board.old) ≡ Holds c r side → ¬ Rose (B.memory_faults board.old) (B.memory_faults board.new) → ¬ Rose (B.output_faults board.old) (B.output_faults board.new) → result ≡ Status.Done }
+    ensures show_complete { (c : Configuration) (r : MeterRecord) (side : Side) → command_of (texts words.now) ≡ Ok Job.Show → B.tells → stored (B.reads board.old) ≡ Holds c r side → ¬ Rose (B.faults board.old).memory (B.faults board.new).memory → ¬ Rose (B.faults board.old).output (B.faults board.new).output → result ≡ Status.Done }
 
     // What `slots` leaves. Unformatted and Foreign come exactly where the first byte is not the mark, and where a field of
     // the header breaks its rule, but for a fault before them.
     ensures slots_leaves { command_of (texts words.now) ≡ Ok Job.Slots → B.tells → SlotsLeaves (B.reads board.old) (B.trace board.old) (B.trace board.new) result }
     ensures slots_unformatted { (byte : ℕ) → command_of (texts words.now) ≡ Ok Job.Slots → B.tells → look (B.reads board.old) ≡ slots.Unformatted byte → (result ≡ Status.Unformatted byte) ⊎ (result ≡ Status.Memory) }
     ensures slots_foreign { (at : ℕ) → command_of (texts words.now) ≡ Ok Job.Slots → B.tells → look (B.reads board.old) ≡ slots.Foreign at → (result ≡ Status.Foreign at) ⊎ (result ≡ Status.Memory) }
-    ensures slots_complete { (gate : Side) (a b : Result ℕ ℕ) → command_of (texts words.now) ≡ Ok Job.Slots → B.tells → look (B.reads board.old) ≡ slots.Slots gate a b → ¬ Rose (B.memory_faults board.old) (B.memory_faults board.new) → ¬ Rose (B.output_faults board.old) (B.output_faults board.new) → result ≡ Status.Done }
+    ensures slots_complete { (gate : Side) (a b : Result ℕ ℕ) → command_of (texts words.now) ≡ Ok Job.Slots → B.tells → look (B.reads board.old) ≡ slots.Slots gate a b → ¬ Rose (B.faults board.old).memory (B.faults board.new).memory → ¬ Rose (B.faults board.old).output (B.faults board.new).output → result ≡ Status.Done }
 
-    // The commands that put one line are done unless the output failed.
-    ensures temp { (sensor : Sensor) (r : ℕ) → command_of (texts words.now) ≡ Ok (Job.Temp sensor r) → B.tells → TempLeaves sensor r (B.trace board.old) (B.trace board.new) result }
-    ensures water { (p t : ℕ) → command_of (texts words.now) ≡ Ok (Job.Water p t) → B.tells → WaterLeaves p t (B.trace board.old) (B.trace board.new) result }
-    ensures coef { (place : Place) (p tf tr : ℕ) → command_of (texts words.now) ≡ Ok (Job.Coef place p tf tr) → B.tells → CoefLeaves place p tf tr (B.trace board.old) (B.trace board.new) result }
-    ensures calc { (sensor : Sensor) (place : Place) (p dmin rf rr litres energy : ℕ) → command_of (texts words.now) ≡ Ok (Job.BenchCalc sensor place p dmin rf rr litres energy) → B.tells → CalcLeaves sensor place p dmin rf rr litres energy (B.trace board.old) (B.trace board.new) result }
-    ensures pair { (sensor : Sensor) (dmin tf tr rf rr : ℕ) → command_of (texts words.now) ≡ Ok (Job.BenchPair sensor dmin tf tr rf rr) → B.tells → PairLeaves sensor dmin tf tr rf rr (B.trace board.old) (B.trace board.new) result }
-    ensures flow { (class qp q reference indicated : ℕ) → command_of (texts words.now) ≡ Ok (Job.BenchFlow class qp q reference indicated) → B.tells → PutsLine (flow_text class qp q reference indicated) (B.trace board.old) (B.trace board.new) result }
-    ensures generated { (seed count : ℕ) → command_of (texts words.now) ≡ Ok (Job.Gen seed count) → B.tells → GenLeaves seed count (B.trace board.old) (B.trace board.new) result }
-    ensures one_line { (job : Job) → command_of (texts words.now) ≡ Ok job → PutsOneLine job → (result ≡ Status.Done) ⊎ Rose (B.output_faults board.old) (B.output_faults board.new) }
+    // The commands that are answered by one line are done unless the output failed.
+    ensures answer { (query : Query) → command_of (texts words.now) ≡ Ok (Job.Ask query) → B.tells → AnswerLeaves query (B.trace board.old) (B.trace board.new) result }
+    ensures one_line { (query : Query) → command_of (texts words.now) ≡ Ok (Job.Ask query) → (result ≡ Status.Done) ⊎ Rose (B.faults board.old).output (B.faults board.new).output }
 
     // What `cert` leaves. Its last line is `yes` only where the enthalpy rises everywhere, and it stops elsewhere only
     // where the output fails.
     ensures cert { (p : ℕ) → command_of (texts words.now) ≡ Ok (Job.Cert p) → B.tells → CertLeaves p (B.trace board.old) (B.trace board.new) result }
     ensures cert_rises { (p : ℕ) → command_of (texts words.now) ≡ Ok (Job.Cert p) → result ≡ Status.Done → EnthalpyRises p }
-    ensures cert_complete { (p : ℕ) → command_of (texts words.now) ≡ Ok (Job.Cert p) → (result ≡ Status.Done) ⊎ ((segment : ℕ) × (result ≡ Status.NotRising segment)) ⊎ Rose (B.output_faults board.old) (B.output_faults board.new) }
+    ensures cert_complete { (p : ℕ) → command_of (texts words.now) ≡ Ok (Job.Cert p) → (result ≡ Status.Done) ⊎ ((segment : ℕ) × (result ≡ Status.NotRising segment)) ⊎ Rose (B.faults board.old).output (B.faults board.new).output }
 
     // What `read mbus` leaves. Where nothing fails it is done, with the lines of exactly what the bytes say, or names
     // the place at which they break a rule, and then nothing was put. 262 bytes decide.
     ensures read_mbus { command_of (texts words.now) ≡ Ok Job.ReadMbus → S.tells → B.tells → ReadLeaves AreTelegramLines (telegram_in (S.left source.old)) (B.trace board.old) (B.trace board.new) result }
     ensures read_mbus_answers { command_of (texts words.now) ≡ Ok Job.ReadMbus → S.tells → ReadAnswers (telegram_in (S.left source.old)) result }
-    ensures read_mbus_complete { command_of (texts words.now) ≡ Ok Job.ReadMbus → S.tells → ¬ Rose (S.faults source.old) (S.faults source.new) → ¬ Rose (B.output_faults board.old) (B.output_faults board.new) → result ≡ read_status (telegram_in (S.left source.old)) }
+    ensures read_mbus_complete { command_of (texts words.now) ≡ Ok Job.ReadMbus → S.tells → ¬ Rose (S.faults source.old) (S.faults source.new) → ¬ Rose (B.faults board.old).output (B.faults board.new).output → result ≡ read_status (telegram_in (S.left source.old)) }
     ensures read_mbus_reads { command_of (texts words.now) ≡ Ok Job.ReadMbus → S.tells → length (S.left source.old) ≤ length (S.left source.new) + 262 }
     ensures read_mbus_untouched { command_of (texts words.now) ≡ Ok Job.ReadMbus → EndsUnread result → board.new ≡ board.old }
 
     // `read optical` in the same way. 2,049 bytes decide.
     ensures read_optical { command_of (texts words.now) ≡ Ok Job.ReadOptical → S.tells → B.tells → ReadLeaves AreMessageLines (message_in (S.left source.old)) (B.trace board.old) (B.trace board.new) result }
     ensures read_optical_answers { command_of (texts words.now) ≡ Ok Job.ReadOptical → S.tells → ReadAnswers (message_in (S.left source.old)) result }
-    ensures read_optical_complete { command_of (texts words.now) ≡ Ok Job.ReadOptical → S.tells → ¬ Rose (S.faults source.old) (S.faults source.new) → ¬ Rose (B.output_faults board.old) (B.output_faults board.new) → result ≡ read_status (message_in (S.left source.old)) }
+    ensures read_optical_complete { command_of (texts words.now) ≡ Ok Job.ReadOptical → S.tells → ¬ Rose (S.faults source.old) (S.faults source.new) → ¬ Rose (B.faults board.old).output (B.faults board.new).output → result ≡ read_status (message_in (S.left source.old)) }
     ensures read_optical_reads { command_of (texts words.now) ≡ Ok Job.ReadOptical → S.tells → length (S.left source.old) ≤ length (S.left source.new) + 2049 }
     ensures read_optical_untouched { command_of (texts words.now) ≡ Ok Job.ReadOptical → EndsUnread result → board.new ≡ board.old }
 
-    // The commands that put one line, `cert`, `show` and `slots` read nothing.
+    // The commands that are answered by one line, `cert`, `show` and `slots` read nothing.
     ensures unread { (job : Job) → command_of (texts words.now) ≡ Ok job → ReadsNothing job → source.new ≡ source.old }
 
     // Nor does `run` where the memory is unformatted or foreign; a board that tells has no such memory later on.
@@ -162,9 +149,9 @@ pub fn meter<S: Source, B: Board>(
 
     // Faults have their causes.
     ensures read { result ≡ Status.Read → Rose (S.faults source.old) (S.faults source.new) }
-    ensures memory { result ≡ Status.Memory → Rose (B.memory_faults board.old) (B.memory_faults board.new) }
-    ensures cut { result ≡ Status.Cut → Rose (B.cuts board.old) (B.cuts board.new) }
-    ensures write { result ≡ Status.Write → Rose (B.output_faults board.old) (B.output_faults board.new) }
+    ensures memory { result ≡ Status.Memory → Rose (B.faults board.old).memory (B.faults board.new).memory }
+    ensures cut { result ≡ Status.Cut → Rose (B.faults board.old).cuts (B.faults board.new).cuts }
+    ensures write { result ≡ Status.Write → Rose (B.faults board.old).output (B.faults board.new).output }
 {
     match command(words) {
         Err(usage) => Status::Usage { word: usage.word },
@@ -173,70 +160,7 @@ pub fn meter<S: Source, B: Board>(
         Ok(Job::Slots) => slots(board),
         Ok(Job::Run) => status_from(run(source, board)),
         Ok(Job::Dry) => status_from(dry(source, board)),
-        Ok(Job::Temp { sensor, r }) => temp(board, sensor, r),
-        Ok(Job::Water { p_kpa, t_udeg }) => water(board, p_kpa, t_udeg),
-        Ok(
-            Job::Coef {
-                place,
-                p_kpa,
-                tf_udeg,
-                tr_udeg,
-            },
-        ) => coef(board, place, p_kpa, tf_udeg, tr_udeg),
-        Ok(
-            Job::BenchCalc {
-                sensor,
-                place,
-                p_kpa,
-                dmin_udeg,
-                rf,
-                rr,
-                litres,
-                energy_mj,
-            },
-        ) => {
-            let test = CalculatorTest {
-                sensor,
-                place,
-                p_kpa,
-                dmin_udeg,
-                rf,
-                rr,
-                litres,
-                energy_mj,
-            };
-            bench::calc(board, test)
-        }
-        Ok(
-            Job::BenchPair {
-                sensor,
-                dmin_udeg,
-                tf_udeg,
-                tr_udeg,
-                rf,
-                rr,
-            },
-        ) => {
-            let test = PairTest {
-                sensor,
-                dmin_udeg,
-                tf_udeg,
-                tr_udeg,
-                rf,
-                rr,
-            };
-            bench::pair(board, test)
-        }
-        Ok(
-            Job::BenchFlow {
-                class,
-                qp,
-                q,
-                reference,
-                indicated,
-            },
-        ) => bench::flow(board, class, qp, q, reference, indicated),
-        Ok(Job::Gen { seed, count }) => generate(board, seed, count),
+        Ok(Job::Ask(query)) => answer(board, query),
         Ok(Job::Cert { p_kpa }) => cert(board, p_kpa),
         Ok(Job::ReadMbus) => readout::mbus(source, board),
         Ok(Job::ReadOptical) => readout::optical(source, board),

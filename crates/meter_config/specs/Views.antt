@@ -1,19 +1,9 @@
 -- A configuration as the definitions name it.
-use Rattle.std.specs.Prelude.{Option, option_map}
-use Rattle.platinum_model.specs.Element.{Element}
+use Rattle.metering_model.specs.Limits.{max_months}
 use Rattle.metering_model.specs.Settings.{Settings}
 use Rattle.config_model.specs.Configuration.{Configuration, flow_or_nominal, return_or_nominal}
-use Rattle.sensor_pair.specs.Place.{place_view}
-use Rattle.pt_curve.specs.Curve.{constants, sensor_ohm}
-use Rattle.pt_curve.specs.declared.cal.Cal.{Cal}
+use Rattle.meter_parts.specs.Views.{calibration_view, place_view, sensor_ohm}
 use Rattle.meter_config.specs.declared.config.Config.{Config}
-
-abbrev pub constants_of_both : Cal × Cal → Element × Element
-constants_of_both c = (constants c.0, constants c.1)
-
--- the constants of both sensors, where they are calibrated
-abbrev pub calibration_view : Option (Cal × Cal) → Option (Element × Element)
-calibration_view = option_map constants_of_both
 
 -- what the definitions of metering need of a configuration
 abbrev pub settings_of : Config → Settings
@@ -24,7 +14,7 @@ settings_of c = record {
   ret = return_or_nominal (sensor_ohm c.sensor) (calibration_view c.cal);
   litres_per_pulse = c.per_pulse;
   set_month = c.set_month;
-  kept_months = 24;
+  kept_months = max_months;
 }
 
 abbrev pub config_view : Config → Configuration

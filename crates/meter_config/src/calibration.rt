@@ -7,12 +7,11 @@ ghost use Rattle.platinum_model.specs.Calibration.{fits};
 ghost use Rattle.config_model.specs.Configuration.{is_calibration};
 ghost use Rattle.accept_model.specs.Calibration.{are_six, calibration, constants_at, number_at};
 ghost use Rattle.accept_model.specs.Accepted.{calibration_in};
-ghost use Rattle.pt_curve.specs.Curve.{constants, nominal_r0, sensor_ohm};
+ghost use Rattle.meter_parts.specs.Views.{calibration_view, constants, nominal_r0, sensor_ohm};
 ghost use Rattle.meter_config.specs.Faults.{Answers};
-ghost use Rattle.meter_config.specs.Views.{calibration_view};
 
 use crate::fault::ConfigFault;
-use pt_curve::{Cal, Sensor};
+use meter_parts::{Cal, Sensor};
 use serde_json::Value;
 
 /// The number of the key `calibration`.

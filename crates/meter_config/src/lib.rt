@@ -9,7 +9,6 @@ mod hostile_tests;
 mod keys;
 mod read;
 mod values;
-mod words;
 
 pub use config::Config;
 pub use fault::ConfigFault;

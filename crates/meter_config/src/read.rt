@@ -12,7 +12,12 @@ use crate::calibration::calibration_at;
 use crate::config::Config;
 use crate::fault::ConfigFault;
 use crate::keys::other_key;
-use crate::values::{capitals_at, date_at, digits_at, place_at, pulse_at, sensor_at, whole_at};
+use crate::values::{
+    byte_at, capitals_at, date_at, digits_at, place_at, pulse_at, sensor_at, whole_at,
+};
+use meter_parts::{
+    LAST_MONTH, MAX_ADDRESS, MAX_DECIMALS, MAX_PRESSURE_KPA, MAX_VERSION, MIN_PRESSURE_KPA,
+};
 use serde_json::Value;
 use std::alloc::Global;
 
@@ -23,7 +28,7 @@ const MAX_TEXT: usize = 4_096;
 /// each with a value in the range of the field of [`Config`] that it is for; `calibration` alone may be
 /// absent. `serial` is a string of eight digits, `maker` one of three letters A to Z, `place` is `"flow"` or
 /// `"return"`, `opening_day` is a string `YYYY-MM-DD`, and `calibration` an object of the whole numbers
-/// `flow_r0`, `flow_a`, `flow_b`, `return_r0`, `return_a` and `return_b`, the fields of [`pt_curve::Cal`] of
+/// `flow_r0`, `flow_a`, `flow_b`, `return_r0`, `return_a` and `return_b`, the fields of [`meter_parts::Cal`] of
 /// the two sensors. All other values are whole numbers. Of a repeated key the last value stands.
 ///
 /// # Errors
@@ -66,29 +71,29 @@ fn keyed_config(object: &Value) -> Result<Config, ConfigFault>
 {
     let serial = digits_at(object, 0)?;
     let maker = capitals_at(object, 1)?;
-    let version = whole_at(object, 2, 0, 255)?;
-    let address = whole_at(object, 3, 0, 250)?;
+    let version = byte_at(object, 2, 0, MAX_VERSION)?;
+    let address = byte_at(object, 3, 0, MAX_ADDRESS)?;
     let place = place_at(object, 4)?;
-    let pressure_kpa = whole_at(object, 5, 1_100, 4_000)?;
+    let pressure_kpa = whole_at(object, 5, MIN_PRESSURE_KPA, MAX_PRESSURE_KPA)?;
     let sensor = sensor_at(object, 6)?;
     let per_pulse = pulse_at(object, 7)?;
-    let energy_decimals = whole_at(object, 8, 0, 3)?;
-    let volume_decimals = whole_at(object, 9, 0, 3)?;
-    let set_month = whole_at(object, 10, 1, 12)?;
+    let energy_decimals = byte_at(object, 8, 0, MAX_DECIMALS)?;
+    let volume_decimals = byte_at(object, 9, 0, MAX_DECIMALS)?;
+    let set_month = byte_at(object, 10, 1, LAST_MONTH)?;
     let opening_day = date_at(object, 11)?;
     let cal = calibration_at(object, sensor)?;
     Ok(Config {
         serial,
         maker,
-        version: version as u8,
-        address: address as u8,
+        version,
+        address,
         place,
         pressure_kpa,
         sensor,
         per_pulse,
-        energy_decimals: energy_decimals as u8,
-        volume_decimals: volume_decimals as u8,
-        set_month: set_month as u8,
+        energy_decimals,
+        volume_decimals,
+        set_month,
         opening_day,
         cal,
     })
@@ -97,7 +102,7 @@ fn keyed_config(object: &Value) -> Result<Config, ConfigFault>
 #[cfg(test)]
 mod tests {
     use super::*;
-    use pt_curve::Cal;
+    use meter_parts::Cal;
     use std::test::Fail;
 
     const DEFAULT: &str =

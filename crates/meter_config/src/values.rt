@@ -5,20 +5,17 @@ ghost use Rattle.std.specs.Prelude.{◌≡◌, ◌≤◌, IfOk, length, IsTrue};
 ghost use Rattle.std.specs.Int.{IsInRange};
 ghost use Rattle.std.specs.List.{list_all};
 ghost use Rattle.serde_json.specs.View.{view};
-ghost use Rattle.config_model.specs.Configuration.{is_capital, is_pulse, is_sensor};
+ghost use Rattle.parts_model.specs.Ranges.{is_capital, is_pulse, is_sensor, max_serial};
 ghost use Rattle.accept_model.specs.Values.{capitals, date, digits, place, whole, whole_in};
 ghost use Rattle.accept_model.specs.Keys.{name_of};
 ghost use Rattle.accept_model.specs.Accepted.{value_at};
 ghost use Rattle.meter_config.specs.Faults.{Answers};
-ghost use Rattle.sensor_pair.specs.Place.{place_view};
-ghost use Rattle.pt_curve.specs.Curve.{sensor_ohm};
+ghost use Rattle.meter_parts.specs.Views.{place_view, sensor_ohm};
 
 use crate::fault::ConfigFault;
 use crate::keys::member;
-use crate::words::{date_word, number_word};
-use billing_memory::Day;
-use pt_curve::Sensor;
-use sensor_pair::Place;
+use billing_memory::{Day, date_word, digits_word};
+use meter_parts::{Place, Sensor, is_pulse};
 use serde_json::Value;
 
 /// A whole number from `low` to `high`.
@@ -32,25 +29,32 @@ pub fn whole_at(object: &Value, key: u8, low: u16, high: u16) -> Result<u16, Con
     }
 }
 
-/// 100, 500 or 1000, for the sensor of this resistance at 0 °C in ohms.
+/// A whole number from `low` to `high`, in a byte.
+pub fn byte_at(object: &Value, key: u8, low: u8, high: u8) -> Result<u8, ConfigFault>
+    ensures said { Answers (λ n. n) result (value_at key (name_of key) (whole_in low high) (view object.now)) }
+    ensures range { IfOk result (IsInRange low high) }
+{
+    let n = whole_at(object, key, u16::from(low), u16::from(high))?;
+    Ok(n as u8)
+}
+
+/// The sensor whose resistance at 0 °C in ohms is said.
 pub fn sensor_at(object: &Value, key: u8) -> Result<Sensor, ConfigFault>
     ensures { Answers sensor_ohm result (value_at key (name_of key) (whole is_sensor) (view object.now)) }
 {
-    match member(object, key)?.as_u64() {
-        Some(100) => Ok(Sensor::Pt100),
-        Some(500) => Ok(Sensor::Pt500),
-        Some(1_000) => Ok(Sensor::Pt1000),
-        _ => Err(ConfigFault::Wrong { key }),
-    }
+    let Some(ohm) = member(object, key)?.as_u64() else {
+        return Err(ConfigFault::Wrong { key });
+    };
+    Sensor::of_ohm(ohm).ok_or(ConfigFault::Wrong { key })
 }
 
-/// The litres of a pulse: 1, 10, 100 or 1000.
+/// The litres of a pulse.
 pub fn pulse_at(object: &Value, key: u8) -> Result<u16, ConfigFault>
     ensures said { Answers (λ n. n) result (value_at key (name_of key) (whole is_pulse) (view object.now)) }
     ensures range { IfOk result (λ litres. IsTrue (is_pulse litres)) }
 {
     match member(object, key)?.as_u64() {
-        Some(litres @ (1 | 10 | 100 | 1_000)) => Ok(litres as u16),
+        Some(litres) if is_pulse(litres) => Ok(litres as u16),
         _ => Err(ConfigFault::Wrong { key }),
     }
 }
@@ -58,7 +62,7 @@ pub fn pulse_at(object: &Value, key: u8) -> Result<u16, ConfigFault>
 /// A string of eight decimal digits.
 pub fn digits_at(object: &Value, key: u8) -> Result<u32, ConfigFault>
     ensures said { Answers (λ n. n) result (value_at key (name_of key) (digits 8) (view object.now)) }
-    ensures range { IfOk result (λ n. n ≤ 99999999) }
+    ensures range { IfOk result (λ n. n ≤ max_serial) }
 {
     let Some(text) = member(object, key)?.as_str() else {
         return Err(ConfigFault::Wrong { key });
@@ -66,7 +70,7 @@ pub fn digits_at(object: &Value, key: u8) -> Result<u32, ConfigFault>
     if text.len() != 8 {
         return Err(ConfigFault::Wrong { key });
     }
-    number_word(text.as_bytes()).ok_or(ConfigFault::Wrong { key })
+    digits_word(text.as_bytes()).ok_or(ConfigFault::Wrong { key })
 }
 
 /// A string of three letters A to Z.

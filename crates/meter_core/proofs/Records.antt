@@ -7,9 +7,10 @@ use Rattle.metering_model.specs.Settings.{Settings}
 use Rattle.metering_model.specs.Counting.{counted_by}
 use Rattle.metering_model.specs.Records as records
 use Rattle.metering_model.specs.Records.{StandsFor}
-use Rattle.metering_model.specs.Integral.{AddsBy, FitsClosely, TakesEvent}
-use Rattle.metering_model.proofs.Steps.{stands-pulses, stands-date, takes}
-use Rattle.journal_model.specs.Faults.{event_fault, kind_fault}
+use Rattle.integral_model.specs.Integral.{AddsBy, FitsClosely, TakesEvent}
+use Rattle.metering_model.proofs.Steps.{stands-pulses, stands-date}
+use Rattle.integral_model.proofs.Joined.{takes}
+use Rattle.answer_model.specs.Faults.{event_fault, kind_fault}
 use Rattle.calendar_model.specs.Entries.{latest, passed_entries, set_entry}
 use Rattle.energy_register.specs.declared.Register.{Register}
 use Rattle.energy_register.specs.declared.Step.{Step}

@@ -3,8 +3,8 @@ use Rattle.std.specs.Prelude.{◌≡◌, None, Some, Result, Ok, Err}
 use Rattle.metering_model.specs.Events.{Event}
 use Rattle.metering_model.specs.Settings.{Settings}
 use Rattle.metering_model.specs.Records.{MeterRecord}
-use Rattle.metering_model.specs.Integral.{TakesEvent}
-use Rattle.journal_model.specs.Faults as faults
+use Rattle.integral_model.specs.Integral.{TakesEvent}
+use Rattle.answer_model.specs.Faults as faults
 use Rattle.meter_core.specs.declared.refused.Refused.{Refused}
 use Rattle.meter_core.specs.declared.refused.Refused.TheVariants.{EventsFull, DateBack, PulsesFull}
 

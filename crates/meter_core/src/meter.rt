@@ -2,6 +2,7 @@
 
 ghost use Rattle.std.specs.Prelude.{◌≡◌, ◌∷◌, [], ℕ, ◌<◌, ◌≤◌, pos, Option, Some, OnErr, OnOk};
 ghost use Rattle.std.specs.Int.{IsInRange};
+ghost use Rattle.metering_model.specs.Limits.{max_events, max_months, max_pulses};
 ghost use Rattle.metering_model.specs.Events.{Sample, Pulse, Date};
 ghost use Rattle.metering_model.specs.Settings.{Settings};
 ghost use Rattle.metering_model.specs.Records.{StandsFor};
@@ -15,14 +16,12 @@ ghost use Rattle.meter_core.specs.Events.{Takes};
 ghost use Rattle.meter_core.specs.Pulses.{Raises};
 
 use crate::Refused;
-use billing_memory::{Day, MeterRecord};
+use billing_memory::{Day, MAX_EVENTS, MeterRecord};
 use event_script::Event;
 use if97_region1::Water;
 use meter_config::Config;
 use pulse_integrator::Rate;
-
-/// The most events of a record, 10^18.
-const MAX_EVENTS: u64 = 1_000_000_000_000_000_000;
+use sensor_pair::Pair;
 
 /// A meter: its configuration, the record that it keeps, and the rate at the samples in force, which is made where
 /// they come into force and not for each pulse.
@@ -63,6 +62,7 @@ impl Meter {
     /// [`Refused::EventsFull`] exactly where the record has 10^18 events. Otherwise
     /// [`Refused::DateBack`] exactly for a date before the day in force, and [`Refused::PulsesFull`]
     /// exactly where the register would count more than 10^15 pulses. Nothing is changed then.
+    #[inline(always)]
     pub fn apply(&mut self, e: &Event) -> Result<(), Refused>
         requires { IsEvent e.now }
         ensures takes { Takes (settings_of self.old.config) (record_view self.old.record) (event_view e.now) (record_view self.new.record) result }
@@ -111,7 +111,8 @@ impl Meter {
     }
 }
 
-// The rate while these samples are in force.
+// The rate while these samples are in force. Pulses are many and samples few, so it stays a call.
+#[inline(never)]
 fn rate_at(config: &Config, water: &Water, samples: Option<(u32, u32)>) -> Rate
     requires { water.now.p_kpa ≡ config.now.pressure_kpa }
     ensures per_pulse { result.per_pulse ≡ config.now.per_pulse }
@@ -121,7 +122,7 @@ fn rate_at(config: &Config, water: &Water, samples: Option<(u32, u32)>) -> Rate
         None => Rate::none(config.per_pulse),
         Some((rf, rr)) => Rate::of(
             water,
-            &config.pair(),
+            &Pair::of(config.sensor, config.cal),
             config.place,
             config.per_pulse,
             rf,
@@ -132,9 +133,9 @@ fn rate_at(config: &Config, water: &Water, samples: Option<(u32, u32)>) -> Rate
 
 // Replaces the samples in force.
 fn take_samples(m: &mut MeterRecord, rf: u32, rr: u32)
-    requires { m.old.seq < 1000000000000000000 }
+    requires { m.old.seq < max_events }
     ensures samples { m.new.samples ≡ Some (rf, rr) }
-    ensures stands { (c : Settings) → c.kept_months ≡ 24 →
+    ensures stands { (c : Settings) → c.kept_months ≡ max_months →
         StandsFor c (record_view m.old) (record { event = Sample rf rr; energy_mj = pos 0; bound_mj = 0 } ∷ [])
         (record_view m.new) }
 {
@@ -144,10 +145,10 @@ fn take_samples(m: &mut MeterRecord, rf: u32, rr: u32)
 
 // Counts pulses and what they carry.
 fn take_pulses(m: &mut MeterRecord, rate: &Rate, n: u64) -> Result<(), Refused>
-    requires room { m.old.seq < 1000000000000000000 }
+    requires room { m.old.seq < max_events }
     requires some { 1 ≤ n }
-    requires most { n ≤ 1000000000000000 }
-    ensures takes { (c : Settings) → c.kept_months ≡ 24 → c.litres_per_pulse ≡ rate.now.per_pulse →
+    requires most { n ≤ max_pulses }
+    ensures takes { (c : Settings) → c.kept_months ≡ max_months → c.litres_per_pulse ≡ rate.now.per_pulse →
         AreInForce c m.old.samples rate.now.origin →
         Takes c (record_view m.old) (Pulse n) (record_view m.new) result }
     ensures raises { OnOk result (Raises n (unit_of rate.now) m.old m.new) }
@@ -166,10 +167,11 @@ fn take_pulses(m: &mut MeterRecord, rate: &Rate, n: u64) -> Result<(), Refused>
 }
 
 // Moves the day on.
+#[inline(never)]
 fn take_date(m: &mut MeterRecord, day: Day, set_month: u8) -> Result<(), Refused>
-    requires room { m.old.seq < 1000000000000000000 }
+    requires room { m.old.seq < max_events }
     requires month { IsInRange 1 12 set_month }
-    ensures takes { (c : Settings) → c.kept_months ≡ 24 → c.set_month ≡ set_month →
+    ensures takes { (c : Settings) → c.kept_months ≡ max_months → c.set_month ≡ set_month →
         Takes c (record_view m.old) (Date day.number) (record_view m.new) result }
     ensures samples { m.new.samples ≡ m.old.samples }
     ensures unchanged { OnErr result (m.new ≡ m.old) }

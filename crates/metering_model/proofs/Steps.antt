@@ -8,8 +8,6 @@ use Rattle.metering_model.specs.Events.{Event, Sample, Pulse, Date}
 use Rattle.metering_model.specs.Settings.{Settings}
 use Rattle.metering_model.specs.Counting.{counted_by, faulty_by, is_in_range}
 use Rattle.metering_model.specs.Records.{MeterRecord, Register, StandsFor, register_after}
-use Rattle.metering_model.specs.Integral.{AddsBy, FitsClosely, TakesEvent}
-use Rattle.metering_model.proofs.Joined.{stands-joined}
 
 -- a record whose months are those that are kept is the one that stands for itself
 latest-whole : {A : Type 0} (keep : ℕ) (xs : List A) → length xs ≤ keep → latest keep (xs ++ []) ≡ xs
@@ -29,16 +27,6 @@ same_counts : (seq day : ℕ) (samples : Option (ℕ × ℕ)) (set_day : Option 
     (record { seq = seq; day = day; samples = samples; faulty = f'; register = record { pulses = p'; energy_mj = e'; bound_mj = b' }; months = months'; set_day = set_day })
 same_counts seq day samples set_day f f' p p' b b' e e' months months' hf hp he hb hm = rw (hf, hp, he, hb, hm) refl
 
-pub stands-sample : (c : Settings) (r : MeterRecord) (flow ret : ℕ) → length r.months ≤ c.kept_months
-    → StandsFor c r (record { event = Sample flow ret; energy_mj = pos 0; bound_mj = 0 } ∷ [])
-    (record { seq = r.seq + 1; day = r.day; samples = Some (flow, ret); faulty = r.faulty; register = r.register; months = r.months; set_day = r.set_day })
-stands-sample c r flow ret few = record {
-  in_order = refl;
-  is =
-      let none : r.faulty ≡ r.faulty + (0 + faulty_by c r.samples 0) = omega (arith, no_faulty c r.samples) in
-      same_counts _ _ _ _ _ _ _ _ _ _ _ _ _ _ none (omega arith) (omega (arith, ints)) (omega arith) (sym (latest-whole c.kept_months r.months few));
-}
-
 pub stands-pulses : (c : Settings) (r : MeterRecord) (n : ℕ) (e : ℤ) (b : ℕ) → length r.months ≤ c.kept_months
     → StandsFor c r (record { event = Pulse n; energy_mj = e; bound_mj = b } ∷ [])
     (record {
@@ -55,17 +43,21 @@ stands-pulses c r n e b few = record {
   is = same_counts _ _ _ _ _ _ _ _ _ _ _ _ _ _ (omega arith) (omega arith) (omega (arith, ints)) (omega arith) (sym (latest-whole c.kept_months r.months few));
 }
 
+-- a record that moves on to a day
+abbrev pub on_day : Settings → MeterRecord → ℕ → MeterRecord
+on_day c r day = record {
+  seq = r.seq + 1;
+  day = day;
+  samples = r.samples;
+  faulty = r.faulty;
+  register = r.register;
+  months = latest c.kept_months (r.months ++ passed_entries r.register r.day day);
+  set_day = set_entry r.register c.set_month r.day day r.set_day;
+}
+
 pub stands-date : (c : Settings) (r : MeterRecord) (day : ℕ) → r.day ≤ day
     → StandsFor c r (record { event = Date day; energy_mj = pos 0; bound_mj = 0 } ∷ [])
-    (record {
-      seq = r.seq + 1;
-      day = day;
-      samples = r.samples;
-      faulty = r.faulty;
-      register = r.register;
-      months = latest c.kept_months (r.months ++ passed_entries r.register r.day day);
-      set_day = set_entry r.register c.set_month r.day day r.set_day;
-    })
+    (on_day c r day)
 stands-date c r day later = record {
   in_order = rw (le-leb r.day day later) refl;
   is = dated (register_after r.register []) (r.faulty + (0 + faulty_by c r.samples 0)) (register_none r.register) (omega (arith, no_faulty c r.samples));
@@ -80,15 +72,7 @@ stands-date c r day later = record {
 
     dated : (reg : Register) (f : ℕ) → reg ≡ r.register → f ≡ r.faulty
         → ◌≡◌ {A = MeterRecord}
-        (record {
-          seq = r.seq + 1;
-          day = day;
-          samples = r.samples;
-          faulty = r.faulty;
-          register = r.register;
-          months = latest c.kept_months (r.months ++ passed_entries r.register r.day day);
-          set_day = set_entry r.register c.set_month r.day day r.set_day;
-        })
+        (on_day c r day)
         (record {
           seq = r.seq + 1;
           day = day;
@@ -99,15 +83,3 @@ stands-date c r day later = record {
           set_day = last_or r.set_day (map (λ month. Some (entry_of reg month)) (filter (λ month. month_of_year month == c.set_month) (months_passed r.day day)) ++ []);
         })
     dated reg f h k = rw (h, k, append-nil (map (entry_of r.register) (months_passed r.day day)), append-nil (map (λ month. Some (entry_of r.register month)) (filter (λ month. month_of_year month == c.set_month) (months_passed r.day day)))) refl
-
--- what stands for an event after a record stands for it after any events
-pub takes : (c : Settings) (old new : MeterRecord) (event : Event) (e : ℤ) (b : ℕ)
-    → AddsBy (FitsClosely c) (counted_by c old.samples event) e b
-    → StandsFor c old (record { event = event; energy_mj = e; bound_mj = b } ∷ []) new
-    → TakesEvent c old event new
-takes c old new event e b fits stands = record {
-  energy_mj = e;
-  bound_mj = b;
-  fits = fits;
-  stands = λ o ks before. stands-joined c o old new ks _ before stands;
-}

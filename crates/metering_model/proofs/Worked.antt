@@ -1,26 +1,20 @@
--- Records that stand for a few events, worked by hand, and the exact energy of two events, worked by fractions.
-use Rattle.std.proofs.Common.{◌≡◌, ℕ, lit≤, true, false, List, [], ◌∷◌, ◌++◌, replicate, ℤ, pos, negsuc, Some, None, refl}
-use lib.Signed.{le_z_yes}
-use Rattle.number_model.specs.Fraction.{whole, power}
+-- Records that stand for a few events, worked by hand.
+use Rattle.std.proofs.Common.{◌≡◌, ℕ, true, false, List, [], ◌∷◌, ◌++◌, replicate, ℤ, pos, negsuc, Some, None, refl}
 use Rattle.platinum_model.specs.Element.{resistance}
 use Rattle.platinum_model.proofs.Samples.{IsWholeTemp-unique}
-use Rattle.platinum_model.proofs.Worked.{pt500, in_range, in_cell, in_cell_60, whole_temp_at_50, counts_10, counts_180, counts, is_small}
-use Rattle.water_model.specs.Decimal.{whole_power}
-use Rattle.water_model.specs.Region1.{region1}
-use Rattle.water_model.specs.Water.{sum_over, volume, enthalpy}
-use Rattle.heat_model.specs.Heat.{Return, litre_energy, LiesBetween}
+use Rattle.platinum_model.proofs.Worked.{pt500, in_range, whole_temp_at_50, counts_10, counts_180, counts, is_small}
+use Rattle.parts_model.specs.Place.{Return}
 use Rattle.calendar_model.specs.Entries.{MonthEntry}
 use Rattle.calendar_model.proofs.Worked.{february, march, next_january, passed_two, passed_year, passed_same}
 use Rattle.metering_model.specs.Events.{Event, Sample, Pulse, Date, Kept}
 use Rattle.metering_model.specs.Settings.{Settings}
 use Rattle.metering_model.specs.Counting as counting
 use Rattle.metering_model.specs.Counting.{Counted, counted_by, faulty_by, is_in_range, whole_temp}
-use Rattle.metering_model.specs.Records.{Register, StandsFor, record_after, opening_record, zero_register, energy_in}
-use Rattle.metering_model.specs.Integral.{Temps, IsChoice, exact_integral, counted_litres, IsBounded, IsNear}
+use Rattle.metering_model.specs.Records.{Register, StandsFor, record_after, opening_record, zero_register}
 use Rattle.metering_model.proofs.Counting.{counts-true, counts-false, whole_temp-is}
 
 -- the flow sensor in the return, 1,600 kPa, Pt500 sensors, 10 litres a pulse, the set day in January, 24 months
-abbrev settings : Settings
+abbrev pub settings : Settings
 settings = record {
   place = Return;
   pressure_kpa = 1600;
@@ -31,11 +25,11 @@ settings = record {
   kept_months = 24;
 }
 
-abbrev kept : Event → ℤ → ℕ → Kept
+abbrev pub kept : Event → ℤ → ℕ → Kept
 kept event energy_mj bound_mj = record { event = event; energy_mj = energy_mj; bound_mj = bound_mj }
 
 -- an event that adds no energy
-abbrev plain : Event → Kept
+abbrev pub plain : Event → Kept
 plain event = kept event (pos 0) 0
 
 -- ---- what counts
@@ -44,7 +38,7 @@ whole_temp_of_sample : whole_temp pt500 596985625 ≡ 50000000
 whole_temp_of_sample = IsWholeTemp-unique pt500 596985625 _ _ (whole_temp-is pt500 596985625 in_range) whole_temp_at_50
 
 -- 60 and 50 °C count; 50.01 and 50 °C do, and 50.009999 and 50 °C do not
-counts_60 : counting.counts settings 616209500 596985625 ≡ true
+pub counts_60 : counting.counts settings 616209500 596985625 ≡ true
 counts_60 = counts-true settings 616209500 596985625 counts_10
 
 counts_apart : counting.counts settings 597004878 596985625 ≡ true
@@ -156,35 +150,3 @@ latest_24 : record_after settings (record (opening_record 9131) { months = oldes
       set_day = Some (record { day = 9132; register = zero_register });
     }
 latest_24 = rw (passed_year, next_january) refl
-
--- ---- the exact energy of 1,000 and of 10 litres between 60 and 50 °C
-
-abbrev events : List Kept
-events = plain (Sample 616209500 596985625) ∷ kept (Pulse 100) (pos 41303818000) 1500 ∷ kept (Pulse 1) (pos 413038181) 20 ∷ []
-
-abbrev choice : ℕ → Temps
-choice n = record { flow = whole 60; ret = whole 50 }
-
-is_choice : IsChoice settings (opening_record 8780) choice events
-is_choice = rw counts_60 (tt, (record { flow = in_cell_60; ret = in_cell }, (record { flow = in_cell_60; ret = in_cell }, tt)))
-
-litres : counted_litres settings (opening_record 8780) events ≡ 1010
-litres = rw counts_60 refl
-
--- 1,010 litres give off 41,716,856,330.79 mJ
-energy : LiesBetween (pos 41716856330) (pos 41716856331) (exact_integral settings (opening_record 8780) choice events)
-unfolding litre_energy volume enthalpy sum_over region1 power whole_power
-energy = rw counts_60 (record { low = record { crossed = le_z_yes tt }; high = record { crossed = le_z_yes tt } })
-
--- the energies that were kept are 149.79 mJ less: within a bound of 150 mJ, and not within one of 149 mJ
-bounded : IsBounded settings (opening_record 8780) choice events
-unfolding litre_energy volume enthalpy sum_over region1 power whole_power
-bounded = record { near = rw counts_60 (record { low = record { crossed = le_z_yes tt }; high = record { crossed = le_z_yes tt } }); cap = rw counts_60 (lit≤ tt) }
-
-near_150 : IsNear (energy_in events) (pos 150) (exact_integral settings (opening_record 8780) choice events)
-unfolding litre_energy volume enthalpy sum_over region1 power whole_power
-near_150 = rw counts_60 (record { low = record { crossed = le_z_yes tt }; high = record { crossed = le_z_yes tt } })
-
-not_near_149 : IsNear (energy_in events) (pos 149) (exact_integral settings (opening_record 8780) choice events) → ⊥
-unfolding litre_energy volume enthalpy sum_over region1 power whole_power
-not_near_149 = rw counts_60 (λ near. near.high.crossed.le)

@@ -1,7 +1,7 @@
 -- When samples are in range, and when they count energy.
 use Rattle.std.specs.Prelude.{ℕ, zero, suc, ◌+◌, ◌*◌, Bool, ◌&&◌, cond, nat_le, int_le, pos, ◌*ℤ◌, Option, None, Some}
 use Rattle.number_model.specs.Fraction.{Fraction, ◌+ℚ◌, ◌-ℚ◌, whole}
-use Rattle.platinum_model.specs.Element.{Element, resistance, microdegrees}
+use Rattle.platinum_model.specs.Element.{Element, max_udeg, microdegrees, resistance}
 use Rattle.metering_model.specs.Events.{Event, Sample, Pulse, Date}
 use Rattle.metering_model.specs.Settings.{Settings}
 
@@ -21,7 +21,7 @@ greatest_to (suc n) e r = cond (is_at_most (resistance e (microdegrees (suc n)))
 
 -- the whole temperature of a sample in range, in microdegrees
 unfoldable pub whole_temp : Element → ℕ → ℕ
-whole_temp e r = greatest_to 180000000 e r
+whole_temp e r = greatest_to max_udeg e r
 
 -- whether both samples are in range, and the flow is warmer by at least 10,000 microdegrees
 abbrev pub counts : Settings → ℕ → ℕ → Bool

@@ -1,3 +1,3 @@
-//! What a meter's record means: metering events, the events that are kept, the record that stands for
-//! them, and the exact integral of their energy. Definitions, in `specs/`, and laws of them.
+//! What a meter's record means: metering events, the events that are kept, which count, and the record that
+//! stands for them. Definitions, in `specs/`, and laws of them.
 #![tactic(auto)]

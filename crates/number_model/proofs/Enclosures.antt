@@ -173,8 +173,6 @@ Holds-ratio s a (pos b) x h p =
 Holds-ratio s a (negsuc b) x h p = absurd (omega (arith, ints, h))
 
 -- m / 2^s itself
-pub Holds-point : (s : ℕ) (m : ℤ) → Holds s m m (scaled s m)
-Holds-point s m = record { low = record { crossed = ≤ℤ_refl (m *ℤ pos (2 ^ s)) }; high = record { crossed = ≤ℤ_refl (m *ℤ pos (2 ^ s)) } }
 
 -- rounded outwards at another scale
 pub Holds-scale : (s t : ℕ) (l h : ℤ) (x : Fraction) → Holds s l h x → Holds t (floor_div (l *ℤ pos (2 ^ t)) (2 ^ s)) (ceil_div (h *ℤ pos (2 ^ t)) (2 ^ s)) x
@@ -235,11 +233,6 @@ pub Holds-div : (s : ℕ) (a b l h l' h' : ℤ) (x y : Fraction) → pos 1 ≤�
 Holds-div s a b l h l' h' x y above e p q = holds_div s a b l h l' h' x y.num y.den y.positive above e p q
 
 -- ends further out
-pub Holds-wider : (s : ℕ) (l h l' h' : ℤ) (x : Fraction) → l' ≤ℤ l → h ≤ℤ h' → Holds s l h x → Holds s l' h' x
-Holds-wider s l h l' h' x low high p = record {
-  low = record { crossed = ≤ℤ_trans (mul-le_pos x.den low) p.low.crossed };
-  high = record { crossed = ≤ℤ_trans p.high.crossed (mul-le_pos x.den high) };
-}
 
 -- what lies between x and z lies between the lower end of x and the upper end of z
 pub Holds-between : (s : ℕ) (l h l' h' : ℤ) (x y z : Fraction) → x ≤ℚ y → y ≤ℚ z → Holds s l h x → Holds s l' h' z → Holds s l h' y

@@ -43,10 +43,6 @@ pub le_diff : (p m q n : ℕ) → p + n ≤ q + m → diff p m ≤ℤ diff q n
 unfolding diff
 le_diff p m q n h = omega (arith, ints)
 
-pub diff_le : (p m q n : ℕ) → diff p m ≤ℤ diff q n → p + n ≤ q + m
-unfolding diff
-diff_le p m q n h = omega (arith, ints)
-
 pub ruleset diffs = (pos-diff, diff-add, diff-neg, diff-mul)
 
 -- the same where one side is a natural, which keeps the products short
@@ -73,9 +69,6 @@ pub *ℤ_assoc : (a b c : ℤ) → (a *ℤ b) *ℤ c ≡ a *ℤ (b *ℤ c)
 
 pub *ℤ_swap : (a : ℤ) (m n : ℕ) → (a *ℤ pos m) *ℤ pos n ≡ (a *ℤ pos n) *ℤ pos m
 *ℤ_swap a m n = rw (as_diff a) (simp ring (same_diff _ _ _ _ (omega arith)))
-
-pub add-*ℤ : (a b c : ℤ) → (a +ℤ b) *ℤ c ≡ a *ℤ c +ℤ b *ℤ c
-add-*ℤ a b c = rw (as_diff a, as_diff b, as_diff c) (simp diffs (same_diff _ _ _ _ (omega arith)))
 
 pub neg-*ℤ : (a b : ℤ) → neg_ℤ a *ℤ b ≡ neg_ℤ (a *ℤ b)
 neg-*ℤ a b = rw (as_diff a, as_diff b) (simp diffs (same_diff _ _ _ _ (omega arith)))

@@ -37,16 +37,6 @@ distrib_right x y u =
     same_trans (same_mul_comm (x +ℚ y) u) (same_trans (same_distrib u x y) (same_add (same_mul_comm u x) (same_mul_comm u y)))
 
 -- moves in sums of four
-pub add_down : (f d u p : Fraction) → (f +ℚ ((d +ℚ u) +ℚ p)) ≈ (((f +ℚ d) +ℚ u) +ℚ p)
-add_down f d u p = same_trans (add_assoc f (d +ℚ u) p) (same_add (add_assoc f d u) (same_refl p))
-
-pub add_up : (f d u p : Fraction) → (f +ℚ ((d +ℚ u) +ℚ p)) ≈ ((d +ℚ (f +ℚ u)) +ℚ p)
-add_up f d u p =
-    same_trans (add_down f d u p)
-    (same_add (same_trans (same_add (add_comm f d) (same_refl u)) (same_sym (add_assoc d f u))) (same_refl p))
-
-pub add_rest : (f s p : Fraction) → (f +ℚ (s +ℚ p)) ≈ (s +ℚ (f +ℚ p))
-add_rest f s p = same_trans (add_assoc f s p) (same_trans (same_add (add_comm f s) (same_refl p)) (same_sym (add_assoc s f p)))
 
 -- (a + b) + (e + k) = (k + (e + a)) + b
 pub gather : (a b e k : Fraction) → ((a +ℚ b) +ℚ (e +ℚ k)) ≈ ((k +ℚ (e +ℚ a)) +ℚ b)

@@ -11,9 +11,6 @@ use Rattle.number_model.proofs.Ints.{*ℤ_assoc, flip_le, neg-*ℤ, as_diff, sam
 pub IsWithin-wider : (m n : ℕ) (z : ℤ) → m ≤ n → IsWithin m z → IsWithin n z
 IsWithin-wider m n z h w = record { low = omega (arith, ints, w.low); high = omega (arith, ints, w.high) }
 
-pub unsigned_abs-within : (n : ℕ) (z : ℤ) → IsWithin n z → unsigned_abs z ≤ n
-unsigned_abs-within n z w = omega (arith, ints, w.low, w.high)
-
 -- z / n, rounded down, is at most w, and so on for the other side
 floor_at_most : (z : ℤ) (n : ℕ) → 0 < n → (shr_z z n *ℤ pos n) ≤ℤ z
 floor_at_most (pos a) n h = omega (arith, ints)

@@ -17,6 +17,10 @@ pub record Holds (s : ℕ) (lo hi : ℤ) (x : Fraction) : Type 0 where
 abbrev pub nanodegrees : ℕ → Fraction
 nanodegrees n = record { num = pos n; den = 1000000000; positive = lit< tt }
 
+-- 180 °C in nanodegrees
+abbrev pub max_ndeg : ℕ
+max_ndeg = 180000000000
+
 -- the temperature x, in degrees Celsius, lies from lo to hi nanodegrees
 pub record SpanHolds (lo hi : ℕ) (x : Fraction) : Type 0 where
   pub low : nanodegrees lo ≤ℚ x

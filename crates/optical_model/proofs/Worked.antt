@@ -4,7 +4,7 @@ use Rattle.std.proofs.lemmas.Bool.{false≢true}
 use Rattle.std.proofs.lemmas.List.{take_at}
 use Rattle.calendar_model.proofs.Worked.{written_january_15, written_march_1, written_april_1}
 use Rattle.metering_model.specs.Records.{MeterRecord, Register, opening_record}
-use Rattle.show_model.proofs.Worked.{standard}
+use Rattle.config_model.specs.Standard.{standard}
 use Rattle.optical_model.specs.Requests.{IsRequest, IsDataSelect, request, without_zeros}
 use Rattle.optical_model.specs.Messages.{identification, check_character, checked, IsBlock, IsDataMessage}
 use Rattle.optical_model.specs.Replies.{Replies}

@@ -1,6 +1,7 @@
 //! The block of a data message: what the meter has counted, line by line.
 ghost use Rattle.std.specs.Prelude.{◌≡◌, ◌+◌, ◌<◌, ◌≤◌, ◌++◌, ◌*◌, length, reverse, List, ℕ};
 ghost use Rattle.std.specs.Option.{option_to_list};
+ghost use Rattle.metering_model.specs.Limits.{max_months};
 ghost use Rattle.arrayvec.specs.ArrayVec.{array_vec_len};
 ghost use Rattle.calendar_model.specs.Texts.{IsDayText};
 ghost use Rattle.optical_model.specs.Messages.{AreEntryLines, IsBlock, entry_lines, first_lines};
@@ -11,9 +12,10 @@ ghost use Rattle.meter_config.specs.Views.{config_view};
 ghost use Rattle.optical_readout.specs.Appends.{Appends, IsDated};
 
 use crate::head::REPLY_ROOM;
-use crate::push::{push_day, push_energy, push_mark, push_serial, push_text, push_volume};
+use crate::push::{push_day, push_energy, push_mark, push_serial, push_volume};
 use arrayvec::ArrayVec;
 use billing_memory::{Day, Entry, MeterRecord};
+use byte_lists::append;
 use energy_register::Register;
 use meter_config::Config;
 
@@ -38,9 +40,9 @@ fn push_first_lines(
     ensures { Appends (IsDated (first_lines (config_view c.now) (register_view register.now)) day.number) 74 message.old.items message.new.items }
 {
     push_serial(message, c.serial);
-    push_text(message, b"6.8");
+    append(message, b"6.8");
     push_energy(message, c, register);
-    push_text(message, b"6.26");
+    append(message, b"6.26");
     push_volume(message, c, register);
     push_day(message, day.text().as_str());
 }
@@ -58,7 +60,7 @@ fn push_set_day(message: &mut ArrayVec<u8, REPLY_ROOM>, c: &Config, set_day: &Op
 // Appends the lines of month entries, the last one first, marked from 02 on.
 fn push_months(message: &mut ArrayVec<u8, REPLY_ROOM>, c: &Config, months: &[Entry])
     requires room { array_vec_len message.old ≤ 145 }
-    requires few { length months.now ≤ 24 }
+    requires few { length months.now ≤ max_months }
     ensures { Appends (AreEntryLines (config_view c.now) 2 (reverse (entries_view months.now))) 1680 message.old.items message.new.items }
 {
     let mut mark = 2;
@@ -75,10 +77,10 @@ fn push_entry(message: &mut ArrayVec<u8, REPLY_ROOM>, c: &Config, entry: &Entry,
     ensures { Appends (IsDated (entry_lines (config_view c.now) (register_view entry.now.register) mark) entry.now.day.number) 70 message.old.items message.new.items }
 {
     let day = entry.day.text();
-    push_text(message, b"6.8");
+    append(message, b"6.8");
     push_mark(message, mark, day.as_str());
     push_energy(message, c, &entry.register);
-    push_text(message, b"6.26");
+    append(message, b"6.26");
     push_mark(message, mark, day.as_str());
     push_volume(message, c, &entry.register);
 }

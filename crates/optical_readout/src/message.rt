@@ -8,9 +8,9 @@ ghost use Rattle.meter_config.specs.Views.{config_view};
 
 use crate::block::push_block;
 use crate::head::REPLY_ROOM;
-use crate::push::push_text;
 use arrayvec::ArrayVec;
 use billing_memory::MeterRecord;
+use byte_lists::append;
 use meter_config::Config;
 
 /// Start and end of text, between which the data stands.
@@ -24,9 +24,9 @@ pub(crate) fn identification(c: &Config) -> ArrayVec<u8, REPLY_ROOM>
     ensures len { array_vec_len result ≡ 11 }
 {
     let mut message = ArrayVec::new();
-    push_text(&mut message, b"/");
-    push_text(&mut message, &c.maker);
-    push_text(&mut message, b"5HEAT\r\n");
+    append(&mut message, b"/");
+    append(&mut message, &c.maker);
+    append(&mut message, b"5HEAT\r\n");
     message
 }
 
@@ -38,7 +38,7 @@ pub(crate) fn data_message(c: &Config, m: &MeterRecord) -> ArrayVec<u8, REPLY_RO
     let mut message = ArrayVec::new();
     message.push(STX);
     push_block(&mut message, c, m);
-    push_text(&mut message, b"!\r\n");
+    append(&mut message, b"!\r\n");
     message.push(ETX);
     let check = check_character(&message.as_slice()[1..]);
     message.push(check);

@@ -1,5 +1,6 @@
 //! Requests and option selects.
 ghost use Rattle.std.specs.Prelude.{◌≡◌, ◌≤◌, ◌↔◌, ◌⊎◌, ℕ, List, [], IsTrue, MatchOption};
+ghost use Rattle.parts_model.specs.Ranges.{max_serial};
 ghost use Rattle.display_model.specs.Display.{eight_digits};
 ghost use Rattle.meter_config.specs.Views.{config_view};
 ghost use Rattle.optical_model.specs.Requests.{IsAddress, IsDataSelect, IsRequest, is_address_byte, request};
@@ -59,7 +60,7 @@ fn is_address_byte(byte: u8) -> bool
 
 // Whether an address is empty, or the serial number but for zeros at the front of either.
 fn is_own(address: &[u8], serial: u32) -> bool
-    requires { serial ≤ 99999999 }
+    requires { serial ≤ max_serial }
     ensures { IsTrue result ↔ ((address.now ≡ [])
         ⊎ (model.without_zeros address.now ≡ model.without_zeros (eight_digits serial))) }
 {

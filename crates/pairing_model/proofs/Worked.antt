@@ -13,7 +13,7 @@ use Rattle.frame_model.specs.Frames.{Short}
 use Rattle.frame_model.proofs.Worked.{are_bytes, wrong_checksum}
 use Rattle.telegram_model.proofs.Worked.{without_months}
 use Rattle.optical_model.proofs.Worked.{to_any, select, said, data_message, data_select}
-use Rattle.show_model.proofs.Worked.{standard}
+use Rattle.config_model.specs.Standard.{standard}
 use Rattle.pairing_model.specs.Setup.{Setup, on_memory}
 use Rattle.pairing_model.specs.Journal.{Journal, at_start, in_force, started}
 use Rattle.pairing_model.specs.Pairing.{Answers, IsCutWork, Pairs, is_work}

@@ -7,8 +7,8 @@ use Rattle.trace_model.specs.Trace.{Entry, Store, Sync, Missed, Put, Arm, Cut}
 use Rattle.trace_model.specs.Output.{OutputLine}
 use Rattle.script_model.specs.Grammar as grammar
 use Rattle.script_model.specs.Grammar.{Line, Metering, Power, Opt, Mbus, line_of}
-use Rattle.journal_model.specs.Faults.{fault_of}
-use Rattle.journal_model.specs.Texts.{armed_text, mbus_text, ok_text, opt_text, power_text}
+use Rattle.answer_model.specs.Faults.{fault_of}
+use Rattle.answer_model.specs.Texts.{armed_text, mbus_text, ok_text, opt_text, power_text}
 use Rattle.optical_model.specs.Replies as optical
 use Rattle.frame_model.specs.Frames.{Frame, Spells, frame_bytes}
 use Rattle.slave_model.specs.Heard.{Heard}

@@ -1,8 +1,8 @@
 -- What metering needs of a configuration.
+use Rattle.metering_model.specs.Limits.{max_months}
 use Rattle.metering_model.specs.Settings.{Settings}
 use Rattle.config_model.specs.Configuration.{Configuration, flow_element, return_element}
 
--- the latest 24 months are kept
 abbrev pub settings_for : Configuration → Settings
 settings_for c = record {
   place = c.place;
@@ -11,5 +11,5 @@ settings_for c = record {
   ret = return_element c;
   litres_per_pulse = c.litres_per_pulse;
   set_month = c.set_month;
-  kept_months = 24;
+  kept_months = max_months;
 }

@@ -1,7 +1,7 @@
 -- A meter that takes a script.
 use Rattle.metering_model.specs.Settings.{Settings}
 use Rattle.config_model.specs.Configuration.{Configuration}
-use Rattle.journal_model.specs.Faults.{Command, Run}
+use Rattle.answer_model.specs.Faults.{Command, Run}
 use Rattle.pairing_model.specs.Settings.{settings_for}
 
 -- the command that it takes it by, and its configuration

@@ -26,6 +26,10 @@ resistance e t = whole e.r0_uohm *ℚ (whole 1 +ℚ ten_billionths e.a_e10 *ℚ 
 abbrev pub microdegrees : ℕ → Fraction
 microdegrees n = record { num = pos n; den = 1000000; positive = lit< tt }
 
+-- 180 °C in microdegrees
+abbrev pub max_udeg : ℕ
+max_udeg = 180000000
+
 -- 10^28 R at n nanodegrees up to 180 °C, where it is a whole number
 unfoldable pub scaled_resistance : Element → ℕ → ℕ
 scaled_resistance e n = e.r0_uohm * (10 ^ 28 + e.a_e10 * 10 ^ 9 * n - e.b_e10 * (n * n))

@@ -1,14 +1,13 @@
 ghost use Rattle.std.specs.Prelude.{◌≡◌, ◌+◌, ◌*◌, ◌^◌, ◌≤◌, ◌↔◌, IsTrue, IsSome, IfSome, pos, ◌≤ℤ◌, ◌<ℤ◌};
 ghost use Rattle.number_model.specs.Fraction.{IsRatio};
-ghost use Rattle.number_model.specs.Enclosure.{nanodegrees};
+ghost use Rattle.number_model.specs.Enclosure.{max_ndeg, nanodegrees};
 ghost use Rattle.platinum_model.specs.Element.{nominal, resistance, scaled_resistance};
 ghost use Rattle.platinum_model.specs.Calibration.{fits_a_sensor};
 ghost use Rattle.platinum_model.specs.Sample.{IsInRange, IsWholeTemp, IsCellSpan};
 ghost use Rattle.pt_curve.specs.Steps.{IsLastStep};
 
-use crate::cal::Cal;
-use crate::sensor::Sensor;
 use interval_num::Span;
+use meter_parts::{Cal, Sensor};
 
 /// Resistances are computed in units of 10^-28 microohms, in which they are whole at whole nanodegrees.
 const SCALE: i128 = 10_000_000_000_000_000_000_000_000_000;
@@ -37,7 +36,8 @@ pub struct Curve {
 }
 
 impl Curve {
-    ghost use Rattle.pt_curve.specs.Curve.{constants, element, nominal_r0};
+    ghost use Rattle.pt_curve.specs.Curve.{element};
+    ghost use Rattle.meter_parts.specs.Views.{constants, nominal_r0};
 
     /// The curve of a sensor with the nominal constants.
     pub fn nominal(s: Sensor) -> Curve
@@ -64,7 +64,7 @@ impl Curve {
 
     /// The resistance at `t_ndeg` nanodegrees Celsius in units of 10^-28 microohms, exactly.
     pub fn resist(&self, t_ndeg: u64) -> i128
-        requires { t_ndeg ≤ 180000000000 }
+        requires { t_ndeg ≤ max_ndeg }
         ensures exact { IsRatio result (pos (10 ^ 28))
             (resistance (element self.now) (nanodegrees t_ndeg)) }
         ensures positive { pos 0 ≤ℤ result }
@@ -123,7 +123,7 @@ impl Curve {
     /// thousandth of a degree from there. One step of Newton's method for A t - B t² = r / R0 - 1, from
     /// the chord's temperature. Nothing rests on it but the time that [`Curve::last_step`] takes.
     fn near_ndeg(&self, r: u32) -> u64
-        ensures { result ≤ 180000000000 }
+        ensures { result ≤ max_ndeg }
     {
         let a = u64::from(self.a_e10);
         let b = u64::from(self.b_e10);
@@ -142,9 +142,9 @@ impl Curve {
     /// resistance is at most `target`. Twice, as a target may lie half a microohm from a sample. The
     /// answer is looked for at the temperature that the slope at `near` leads to, then everywhere.
     fn last_step(&self, target: i128, near: u64, step: u64, steps: u64, halvings: u32) -> u64
-        requires near { near ≤ 180000000000 }
+        requires near { near ≤ max_ndeg }
         requires positive { 1 ≤ step }
-        requires range { step * steps ≤ 180000000000 }
+        requires range { step * steps ≤ max_ndeg }
         requires enough { steps ≤ 2 ^ halvings }
         requires low { pos (2 * scaled_resistance (element self.now) 0) ≤ℤ target }
         requires high { target
@@ -164,10 +164,10 @@ impl Curve {
 
     /// Nanodegrees at which the tangent at `near` says that twice the resistance is `target`.
     fn tangent_ndeg(&self, target: i128, near: u64) -> u64
-        requires near { near ≤ 180000000000 }
+        requires near { near ≤ max_ndeg }
         requires low { pos 0 ≤ℤ target }
         requires high { target ≤ℤ pos (36 * 10 ^ 36) }
-        ensures { result ≤ 180000000000 }
+        ensures { result ≤ max_ndeg }
     {
         let rest = target - 2 * self.resist(near);
         // Both are cut to 64 bits, which they keep to where the resistance at `near` is close to the target.
@@ -179,7 +179,7 @@ impl Curve {
 
     /// By how much twice the resistance rises at `near`, a nanodegree.
     fn rise(&self, near: u64) -> i128
-        requires { near ≤ 180000000000 }
+        requires { near ≤ max_ndeg }
         ensures least { pos (2 ^ 80) ≤ℤ result }
         ensures most { result ≤ℤ pos (2 ^ 90) }
     {
@@ -189,7 +189,7 @@ impl Curve {
     }
 
     fn is_last_step(&self, target: i128, step: u64, steps: u64, k: u64) -> bool
-        requires range { step * steps ≤ 180000000000 }
+        requires range { step * steps ≤ max_ndeg }
         ensures { IsTrue result ↔ IsLastStep (element self.now) target step steps k }
     {
         if k >= steps {
@@ -202,7 +202,7 @@ impl Curve {
 
     /// As [`Curve::last_step`], wherever it lies.
     fn last_step_by_halving(&self, target: i128, step: u64, steps: u64, halvings: u32) -> u64
-        requires range { step * steps ≤ 180000000000 }
+        requires range { step * steps ≤ max_ndeg }
         requires enough { steps ≤ 2 ^ halvings }
         requires low { pos (2 * scaled_resistance (element self.now) 0) ≤ℤ target }
         requires high { target
@@ -220,72 +220,5 @@ impl Curve {
             }
         }
         last
-    }
-}
-
-#[cfg(test)]
-mod tests {
-    use super::*;
-
-    #[test]
-    fn resistances_of_the_table(rt: HostRuntime) {
-        let pt100 = Curve::nominal(Sensor::Pt100);
-        let pt500 = Curve::nominal(Sensor::Pt500);
-        for (t_ndeg, pt100_uohm, pt500_uohm) in [
-            (0, 100_000_000, 500_000_000),
-            (50_000_000_000, 119_397_125, 596_985_625),
-            (60_000_000_000, 123_241_900, 616_209_500),
-            (100_000_000_000, 138_505_500, 692_527_500),
-            (180_000_000_000, 168_478_300, 842_391_500),
-        ] {
-            assert_eq!(rt; pt100.resist(t_ndeg), pt100_uohm * SCALE);
-            assert_eq!(rt; pt500.resist(t_ndeg), pt500_uohm * SCALE);
-        }
-    }
-
-    #[test]
-    fn whole_temperatures(rt: HostRuntime) {
-        let pt100 = Curve::nominal(Sensor::Pt100);
-        assert_eq!(rt; pt100.whole_temp(138_505_500), Some(100_000_000));
-        assert_eq!(rt; pt100.whole_temp(100_000_000), None);
-        assert_eq!(rt; pt100.whole_temp(100_000_001), Some(2));
-        assert_eq!(rt; pt100.whole_temp(168_478_299), Some(179_999_997));
-        assert_eq!(rt; pt100.whole_temp(168_478_300), None);
-        let pt500 = Curve::nominal(Sensor::Pt500);
-        assert_eq!(rt; pt500.whole_temp(596_985_625), Some(50_000_000));
-        assert_eq!(rt; pt500.whole_temp(596_985_624), Some(49_999_999));
-    }
-
-    #[test]
-    fn cells(rt: HostRuntime) {
-        let pt100 = Curve::nominal(Sensor::Pt100);
-        assert_eq!(rt;
-            pt100.cell(138_505_500),
-            Some(Span {
-                lo: 99_999_998_681,
-                hi: 100_000_001_319
-            })
-        );
-        assert_eq!(rt; pt100.cell(168_478_300), None);
-        let pt1000 = Curve::nominal(Sensor::Pt1000);
-        assert_eq!(rt;
-            pt1000.cell(1_385_055_000),
-            Some(Span {
-                lo: 99_999_999_868,
-                hi: 100_000_000_132
-            })
-        );
-    }
-
-    #[test]
-    fn calibrated_temperatures(rt: HostRuntime) {
-        let cal = Cal {
-            r0_uohm: 501_000_000,
-            a_e10: 39_083_000,
-            b_e10: 5_775,
-        };
-        let curve = Curve::calibrated(cal);
-        assert_eq!(rt; curve.whole_temp(617_441_919), Some(60_000_000));
-        assert_eq!(rt; curve.whole_temp(617_441_918), Some(59_999_999));
     }
 }

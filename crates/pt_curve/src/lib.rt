@@ -2,10 +2,6 @@
 //! and temperature from resistance, exactly, from 0 to 180 °C.
 #![tactic(auto)]
 
-mod cal;
 mod curve;
-mod sensor;
 
-pub use cal::Cal;
 pub use curve::Curve;
-pub use sensor::Sensor;

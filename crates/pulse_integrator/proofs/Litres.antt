@@ -9,14 +9,15 @@ use Rattle.number_model.proofs.Ints.{as_diff, same_diff, ring, mul-le_pos, recas
 use Rattle.platinum_model.specs.Element.{Element}
 use Rattle.platinum_model.specs.Sample.{IsCellSpan, IsInRange}
 use Rattle.platinum_model.specs.Pair.{IsCountingPair, IsSmallPair}
-use Rattle.heat_model.specs.Heat.{Place, LiesBetween, litre_energy}
+use Rattle.heat_model.specs.Heat.{LiesBetween, litre_energy}
+use Rattle.parts_model.specs.Place.{Place}
 use Rattle.metering_model.specs.Events.{Pulse}
 use Rattle.metering_model.specs.Settings.{Settings}
 use Rattle.metering_model.specs.Counting.{Counted, counted_by, counts, faulty_by, is_in_range}
-use Rattle.metering_model.specs.Integral.{AddsBy, FitsClosely, Temps, AreInCells, bound_at_points}
+use Rattle.integral_model.specs.Integral.{AddsBy, FitsClosely, Temps, AreInCells, bound_at_points}
 use Rattle.metering_model.proofs.Counting.{counts-true, counts-false, counts-no_flow, counts-no_return, in_range-true, in_range-false}
 use Rattle.pt_curve.specs.Curve.{element}
-use Rattle.sensor_pair.specs.Place.{place_view}
+use Rattle.meter_parts.specs.Views.{place_view}
 use Rattle.energy_register.specs.declared.Step.{Step}
 use Rattle.pulse_integrator.specs.declared.origin.Origin.{Origin}
 use Rattle.pulse_integrator.specs.declared.per_litre.PerLitre.{PerLitre}

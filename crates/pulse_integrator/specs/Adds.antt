@@ -5,10 +5,10 @@ use Rattle.platinum_model.specs.Sample.{AreCellEnds}
 use Rattle.metering_model.specs.Events.{Pulse}
 use Rattle.metering_model.specs.Settings.{Settings}
 use Rattle.metering_model.specs.Counting.{Counted, counted_by, counts, faulty_by}
-use Rattle.metering_model.specs.Integral.{AddsBy, Fits, FitsClosely, Temps, AreInCells, IsNear, bound_at_points, energy_of}
+use Rattle.integral_model.specs.Integral.{AddsBy, AreInCells, Fits, FitsClosely, IsNear, Temps, bound_at_points, energy_of, margin_per_litre, max_bound_per_litre}
 use Rattle.energy_register.specs.declared.Step.{Step}
 use Rattle.pt_curve.specs.Curve.{element}
-use Rattle.sensor_pair.specs.Place.{place_view}
+use Rattle.meter_parts.specs.Views.{place_view}
 use Rattle.pulse_integrator.specs.declared.origin.Origin.{Origin}
 use Rattle.pulse_integrator.specs.declared.per_litre.PerLitre.{PerLitre}
 
@@ -29,7 +29,7 @@ pub record IsStep (c : Settings) (samples : Option (ℕ × ℕ)) (n : ℕ) (s : 
 pub record AddsPulses (per_pulse : ℕ) (origin : Option Origin) (n : ℕ) (s : Step) : Type 0 where
   pub step : (c : Settings) (samples : Option (ℕ × ℕ)) → c.litres_per_pulse ≡ per_pulse → AreInForce c samples origin → IsStep c samples n s
   pub size : IsWithin (2000000000 * (n * per_pulse)) s.e_mj
-  pub bound : s.b_mj ≤ 2000 * (n * per_pulse)
+  pub bound : s.b_mj ≤ max_bound_per_litre * (n * per_pulse)
   pub few : s.faulty ≤ n
 
 -- a litre at these samples
@@ -40,7 +40,7 @@ litre_by c (Some s) = cond (counts c s.0 s.1) (Some (record { flow = s.0; ret = 
 -- a litre that counts fits closely, with its cells
 pub record FitsLitre (c : Settings) (k : Counted) (l : PerLitre) : Type 0 where
   pub fits : Fits c k l.e_mj l.b_mj
-  pub nearer : (t : Temps) → AreInCells c k t → IsNear l.e_mj (pos l.b_mj -ℤ pos (1200 * k.litres)) (energy_of c k t)
+  pub nearer : (t : Temps) → AreInCells c k t → IsNear l.e_mj (pos l.b_mj -ℤ pos (margin_per_litre * k.litres)) (energy_of c k t)
   pub flow_ends : AreCellEnds c.flow k.flow l.flow.lo l.flow.hi
   pub return_ends : AreCellEnds c.ret k.ret l.ret.lo l.ret.hi
   pub closer : 15 * l.b_mj ≤ k.litres * (bound_at_points + (l.flow.hi - l.flow.lo) + (l.ret.hi - l.ret.lo))
@@ -51,4 +51,4 @@ pub record AddsLitre (origin : Option Origin) (l : PerLitre) : Type 0 where
   pub uncounted : (c : Settings) (samples : Option (ℕ × ℕ)) → AreInForce c samples origin → litre_by c samples ≡ None → (l.e_mj ≡ pos 0) × (l.b_mj ≡ 0)
   pub faulty : (c : Settings) (samples : Option (ℕ × ℕ)) → AreInForce c samples origin → cond l.faulty 1 0 ≡ faulty_by c samples 1
   pub size : IsWithin 2000000000 l.e_mj
-  pub bound : l.b_mj ≤ 2000
+  pub bound : l.b_mj ≤ max_bound_per_litre

@@ -4,7 +4,7 @@ ghost use Rattle.std.specs.Prelude.{ℕ, List};
 ghost use Rattle.metering_model.specs.Events.{Kept};
 ghost use Rattle.metering_model.specs.Settings.{Settings};
 ghost use Rattle.metering_model.specs.Records.{MeterRecord};
-ghost use Rattle.metering_model.specs.Integral.{Temps, AllFit, IsChoice, IsBounded};
+ghost use Rattle.integral_model.specs.Integral.{Temps, AllFit, IsChoice, IsBounded};
 
 /// A law, which computes nothing: where the energies of events fit, their sum differs from the exact
 /// integral, whatever the temperatures in the cells, by at most the sum of the bounds, and that sum is at

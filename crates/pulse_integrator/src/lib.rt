@@ -5,8 +5,6 @@ mod bounded;
 mod origin;
 mod per_litre;
 mod rate;
-#[cfg(test)]
-mod tests;
 
 pub use bounded::energies_are_bounded;
 pub use origin::Origin;

@@ -5,7 +5,8 @@ ghost use Rattle.std.specs.Prelude.{◌≡◌, Some};
 use crate::per_litre::PerLitre;
 use heat_coeff::litre_energy;
 use if97_region1::Water;
-use sensor_pair::{Pair, Place, Verdict};
+use meter_parts::Place;
+use sensor_pair::{Pair, Verdict};
 
 /// What a rate was made from.
 #[derive(Clone, Copy, Debug, PartialEq, Eq)]

@@ -2,7 +2,7 @@
 
 ghost use Rattle.std.specs.Prelude.{◌≡◌, ◌+◌, ◌-◌, ◌*◌, ◌≤◌, true, false, pos, ◌+ℤ◌, ◌-ℤ◌, ◌*ℤ◌, ◌≤ℤ◌};
 ghost use Rattle.number_model.specs.Rounding.{IsWithin};
-ghost use Rattle.metering_model.specs.Integral.{bound_at_points};
+ghost use Rattle.integral_model.specs.Integral.{bound_at_points, margin_per_litre};
 
 use heat_coeff::Litre;
 use interval_num::Span;
@@ -55,8 +55,8 @@ impl PerLitre {
         requires return_narrow { ret.hi - ret.lo ≤ 2800 }
         requires close { (pos 15 *ℤ (q.hi_mj -ℤ q.lo_mj)) ≤ℤ
             pos (241 + 2 * ((flow.hi - flow.lo) + (ret.hi - ret.lo))) }
-        ensures low { (result.e_mj -ℤ (pos result.b_mj -ℤ pos 1200)) ≤ℤ q.lo_mj }
-        ensures high { q.hi_mj ≤ℤ (result.e_mj +ℤ (pos result.b_mj -ℤ pos 1200)) }
+        ensures low { (result.e_mj -ℤ (pos result.b_mj -ℤ pos margin_per_litre)) ≤ℤ q.lo_mj }
+        ensures high { q.hi_mj ≤ℤ (result.e_mj +ℤ (pos result.b_mj -ℤ pos margin_per_litre)) }
         ensures closer { 15 * result.b_mj ≤
             bound_at_points + (flow.hi - flow.lo) + (ret.hi - ret.lo) }
         ensures narrow { pos (12 * result.b_mj) ≤ℤ (pos 14406 +ℤ pos 6 *ℤ (q.hi_mj -ℤ q.lo_mj)) }
@@ -91,8 +91,8 @@ fn middle(q: Litre) -> i64
 fn bound(hi_mj: i128, e_mj: i64) -> u32
     requires size { IsWithin 1400000000 hi_mj }
     requires least { e_mj ≤ℤ hi_mj }
-    requires most { hi_mj ≤ℤ (e_mj +ℤ pos 1200) }
-    ensures { pos result ≡ pos 1200 +ℤ (hi_mj -ℤ e_mj) }
+    requires most { hi_mj ≤ℤ (e_mj +ℤ pos margin_per_litre) }
+    ensures { pos result ≡ pos margin_per_litre +ℤ (hi_mj -ℤ e_mj) }
 {
     (MARGIN_MJ + (hi_mj - i128::from(e_mj))) as u32
 }

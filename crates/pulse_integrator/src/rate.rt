@@ -1,15 +1,17 @@
 //! The rate at which pulses add energy while samples are in force.
 
 ghost use Rattle.std.specs.Prelude.{◌≡◌, ◌≤◌, IsTrue, None, Some, pos, ◌*ℤ◌};
+ghost use Rattle.metering_model.specs.Limits.{max_pulses};
 ghost use Rattle.number_model.specs.Rounding.{IsWithin};
-ghost use Rattle.config_model.specs.Configuration.{is_pulse};
+ghost use Rattle.parts_model.specs.Ranges.{is_pulse};
 ghost use Rattle.pulse_integrator.specs.Adds.{AddsLitre, AddsPulses};
 
 use crate::Origin;
 use crate::per_litre::PerLitre;
 use energy_register::Step;
 use if97_region1::Water;
-use sensor_pair::{Pair, Place};
+use meter_parts::Place;
+use sensor_pair::Pair;
 
 /// The rate at which pulses add energy while the same samples are in force.
 #[derive(Clone, Copy, Debug, PartialEq, Eq)]
@@ -74,7 +76,7 @@ impl Rate {
     /// more, and how many of the pulses are faulty. Each is `n` times what one pulse adds.
     pub fn add(&self, n: u64) -> Step
         requires some { 1 ≤ n }
-        requires most { n ≤ 1000000000000000 }
+        requires most { n ≤ max_pulses }
         ensures adds { AddsPulses self.now.per_pulse self.now.origin n result }
         ensures times { result ≡ times n (unit_of self.now) }
     {

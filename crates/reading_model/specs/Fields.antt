@@ -1,6 +1,6 @@
 -- What readouts say.
 use Rattle.std.specs.Prelude.{ℕ, ℤ, Bool, List}
-use Rattle.heat_model.specs.Heat.{Place}
+use Rattle.parts_model.specs.Place.{Place}
 
 -- what a data record is a value of
 pub data Kind : Type 0 where

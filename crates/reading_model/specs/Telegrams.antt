@@ -2,9 +2,9 @@
 use Rattle.std.specs.Prelude.{ℕ, ◌+◌, ◌-◌, ◌*◌, ◌/◌, ◌%◌, ◌==◌, ◌||◌, nat_le, min, if◌then◌else◌, Bool, List, [], ◌∷◌, length, take, drop, Result, Ok, Err}
 use Rattle.std.specs.Int.{w16, from_le_bytes}
 use Rattle.std.specs.List.{list_all}
-use Rattle.heat_model.specs.Heat.{Place, Flow, Return}
+use Rattle.parts_model.specs.Place.{Place, Flow, Return}
 use Rattle.frame_model.specs.Frames.{checksum}
-use Rattle.config_model.specs.Configuration.{is_capital}
+use Rattle.parts_model.specs.Ranges.{is_address, is_capital}
 use Rattle.reading_model.specs.Rules.{Rule, rule, first_broken, unless_broken, byte}
 use Rattle.reading_model.specs.Fields.{Reading, Telegram}
 use Rattle.reading_model.specs.Records.{is_decimal, records_in}
@@ -41,7 +41,7 @@ end_rules bytes =
 -- control field 08, an address of one meter, control information 72
 abbrev pub link_rules : List ℕ → List Rule
 link_rules bytes =
-    rule 4 (byte bytes 4 == 8) ∷ rule 5 (nat_le (byte bytes 5) 250) ∷ rule 6 (byte bytes 6 == 114) ∷ []
+    rule 4 (byte bytes 4 == 8) ∷ rule 5 (is_address (byte bytes 5)) ∷ rule 6 (byte bytes 6 == 114) ∷ []
 
 -- a serial number of eight decimal digits
 abbrev pub serial_rules : List ℕ → List Rule

@@ -4,6 +4,7 @@ use Rattle.std.specs.Prelude.{ℕ, zero, suc, ◌+◌, ◌*◌, nat_lt, ℤ, pos
 use Rattle.std.specs.List.{All}
 use Rattle.std.specs.Option.{option_to_list}
 use Rattle.platinum_model.specs.Element.{Element}
+use Rattle.calendar_model.specs.Calendar.{last_day}
 use Rattle.calendar_model.specs.Entries.{MonthEntry}
 use Rattle.display_model.specs.Display.{shown_digits, energy_unit, volume_unit}
 use Rattle.config_model.specs.Configuration.{Configuration, flow_element, return_element}
@@ -129,10 +130,10 @@ message_said c m = record {
 -- ---- records of these years
 
 abbrev pub IsInCentury : MonthEntry Register → Type 0
-IsInCentury e = e.day ≤ 36524
+IsInCentury e = e.day ≤ last_day
 
 -- the days of a record and of its entries are from 2000-01-01 to 2099-12-31
 pub record HasDays (m : MeterRecord) : Type 0 where
-  pub day : m.day ≤ 36524
+  pub day : m.day ≤ last_day
   pub set_day : All IsInCentury (option_to_list m.set_day)
   pub months : All IsInCentury m.months

@@ -1,7 +1,7 @@
 -- A telegram whose rules are all kept.
 use Rattle.std.proofs.Common.{◌≡◌, ◌∙◌, ℕ, suc, ◌+◌, ◌-◌, ◌≤◌, ◌<◌, Bool, List, [], ◌∷◌, length, take, drop, None, Result, Ok, refl, sym, ap, drop-cons, arith}
 use Rattle.std.proofs.lemmas.List.{drop-take, drop-drop}
-use Rattle.heat_model.specs.Heat.{Place}
+use Rattle.parts_model.specs.Place.{Place}
 use Rattle.reading_model.specs.Rules.{Rule, first_broken, unless_broken, byte}
 use Rattle.reading_model.specs.Fields.{Reading}
 use Rattle.reading_model.specs.Records.{records_in}

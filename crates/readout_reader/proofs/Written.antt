@@ -7,8 +7,9 @@ use Rattle.std.proofs.lemmas.Bool.{le-leb}
 use Rattle.std.proofs.lemmas.Nat.{from_le_bytes-to_le_bytes_2}
 use Rattle.std.proofs.lemmas.List.{get_or-append-add, length-take}
 use Rattle.std.proofs.Math.Seq.{take-append_seam, get_or-append_seam}
-use Rattle.heat_model.specs.Heat.{Place, Flow, Return}
-use Rattle.config_model.specs.Configuration.{Configuration, IsConfiguration, is_capital}
+use Rattle.parts_model.specs.Place.{Place, Flow, Return}
+use Rattle.config_model.specs.Configuration.{Configuration, IsConfiguration}
+use Rattle.parts_model.specs.Ranges.{is_capital}
 use Rattle.metering_model.specs.Records.{MeterRecord}
 use Rattle.frame_model.specs.Frames.{Frame, Long, frame_bytes, checksum}
 use Rattle.telegram_model.specs.Values.{decimal_bytes}

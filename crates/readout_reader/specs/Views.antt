@@ -1,6 +1,6 @@
 -- What the code's types are, in the words of the definitions.
 use Rattle.std.specs.Prelude.{ℕ, ℤ, List, [], map}
-use Rattle.sensor_pair.specs.Place.{place_view}
+use Rattle.meter_parts.specs.Views.{place_view}
 use Rattle.reading_model.specs.Fields as fields
 use Rattle.reading_model.specs.Records as records
 use Rattle.readout_reader.specs.declared.coding.Coding.{Coding}

@@ -1,6 +1,7 @@
 //! What a meter writes is read, and where input that ends early is broken.
 
 ghost use Rattle.std.specs.Prelude.{◌≡◌, ◌≤◌, ◌↔◌, ℕ, true, List, length, Ok, Some};
+ghost use Rattle.metering_model.specs.Limits.{max_months};
 ghost use Rattle.config_model.specs.Configuration.{Configuration, IsConfiguration};
 ghost use Rattle.metering_model.specs.Records.{MeterRecord};
 ghost use Rattle.frame_model.specs.Frames.{Frame, frame_bytes};
@@ -19,7 +20,7 @@ pub fn telegrams_are_read()
 /// A law: the data message of a record with at most 24 month entries, of any configuration, is read as the displays,
 /// days and entries that it was written from.
 pub fn data_messages_are_read()
-    ensures { (c : Configuration) (m : MeterRecord) (text : List ℕ) → IsConfiguration c → length m.months ≤ 24 → IsDataMessage c m text → message_in text ≡ Ok (message_said c m) }
+    ensures { (c : Configuration) (m : MeterRecord) (text : List ℕ) → IsConfiguration c → length m.months ≤ max_months → IsDataMessage c m text → message_in text ≡ Ok (message_said c m) }
 {}
 
 /// A law: the endings of a serial number, a number, a day and the second day of a mark tell whether it can be mended

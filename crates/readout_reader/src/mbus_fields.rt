@@ -1,5 +1,5 @@
 use arrayvec::ArrayVec;
-use sensor_pair::Place;
+use meter_parts::Place;
 
 /// What a data record is a value of.
 #[derive(Clone, Copy, Debug, Default, PartialEq, Eq)]
@@ -33,7 +33,7 @@ pub struct Rec {
 /// What a telegram says.
 #[derive(Clone, Debug, PartialEq, Eq, Drop)]
 pub struct MbusFields {
-    /// The meter's address on the bus, at most 250.
+    /// The meter's address on the bus, at most [`meter_parts::MAX_ADDRESS`].
     pub address: u8,
     /// The serial number, of at most eight digits.
     pub serial: u32,

@@ -1,7 +1,7 @@
 //! A telegram (EN 13757-2 and -3).
 
 ghost use Rattle.std.specs.Prelude.{◌≡◌, ◌≤◌, ◌+◌, length};
-ghost use Rattle.sensor_pair.specs.Place.{place_view};
+ghost use Rattle.meter_parts.specs.Views.{place_view};
 ghost use Rattle.reading_model.specs.Records as records;
 ghost use Rattle.reading_model.specs.Telegrams as model;
 ghost use Rattle.readout_reader.specs.Views.{recs_view, telegram_view};
@@ -14,7 +14,7 @@ use crate::telegram_rules::{
 use crate::value::decimal_number;
 use crate::{BadPlace, MbusFields, Rec};
 use arrayvec::ArrayVec;
-use sensor_pair::Place;
+use meter_parts::Place;
 
 /// The fields of a telegram.
 ///

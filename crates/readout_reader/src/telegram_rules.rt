@@ -11,6 +11,7 @@ ghost use Rattle.readout_reader.specs.Reading.{Passes};
 
 use crate::BadPlace;
 use crate::value::is_decimal;
+use meter_parts::is_address;
 
 // Hexadecimal, after EN 13757-2 and -3.
 const START: u8 = 0x68;
@@ -23,8 +24,6 @@ const VARIABLE_DATA: u8 = 0x72;
 
 /// The bytes of the header alone.
 const HEADER: u8 = 15;
-
-const LAST_ADDRESS: u8 = 250;
 
 /// The four bytes before the counted ones.
 pub(crate) fn check_start(bytes: &[u8]) -> Result<(), BadPlace>
@@ -85,7 +84,7 @@ pub(crate) fn check_link(bytes: &[u8]) -> Result<(), BadPlace>
     if bytes[4] != RESPONSE {
         return Err(BadPlace { at: 4 });
     }
-    if bytes[5] > LAST_ADDRESS {
+    if !is_address(bytes[5]) {
         return Err(BadPlace { at: 5 });
     }
     if bytes[6] != VARIABLE_DATA {

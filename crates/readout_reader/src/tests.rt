@@ -2,7 +2,7 @@ ghost use Rattle.std.specs.Prelude.{◌<◌, ◌≤◌};
 
 use super::*;
 use billing_memory::Day;
-use sensor_pair::Place;
+use meter_parts::Place;
 
 // The second telegram of a reading of a meter on 2024-02-01, after three pulses of ten litres: one month entry.
 const MONTHS: [u8; 40] = [

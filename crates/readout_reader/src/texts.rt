@@ -1,16 +1,14 @@
 //! Fixed bytes, serial numbers, numbers and days of a data message.
 
-ghost use Rattle.std.specs.Prelude.{◌≡◌, ◌≤◌, ◌<◌, ◌+◌, ◌-◌, ◌^◌, ◌++◌, length, take, drop, cond, None, Some, IfOk, IfSome};
+ghost use Rattle.std.specs.Prelude.{◌≡◌, ◌≤◌, ◌<◌, ◌+◌, ◌-◌, ◌++◌, length, take, drop, cond, None, Some, IfOk};
 ghost use Rattle.std.specs.Option.{option_map};
-ghost use Rattle.script_model.specs.Dates.{date_in, is_date_form};
-ghost use Rattle.script_model.specs.Numbers.{all_digits, value_after};
 ghost use Rattle.reading_model.specs.Messages as model;
 ghost use Rattle.readout_reader.specs.Views.{number_view};
 ghost use Rattle.readout_reader.specs.Reading.{ReadsLeft};
 
 use crate::Number;
 use crate::broken::Broken;
-use billing_memory::Day;
+use billing_memory::{Day, date_word, digits_word};
 
 /// The bytes behind fixed ones.
 ///
@@ -77,7 +75,7 @@ pub(crate) fn day_of(bytes: &[u8]) -> Result<((Day, &[u8]), &[u8]), Broken>
         return Err(cut_short(bytes, is_day_mended(bytes)));
     }
     let text = &bytes[..10];
-    match date_said(text) {
+    match date_word(text) {
         Some(day) => Ok(((day, text), &bytes[10..])),
         None => Err(Broken { left: bytes.len() }),
     }
@@ -136,8 +134,8 @@ fn is_day_mended(text: &[u8]) -> bool
     requires { length text.now ≤ 10 }
     ensures { result ≡ model.is_mended model.day_form text.now }
 {
-    date_said(&ended(text, b"2000-01-01")).is_some()
-        || date_said(&ended(text, b"2000-01-30")).is_some()
+    date_word(&ended(text, b"2000-01-01")).is_some()
+        || date_word(&ended(text, b"2000-01-30")).is_some()
 }
 
 // Whether further bytes make a text what was there before.
@@ -164,23 +162,7 @@ fn serial_said(text: &[u8]) -> Option<u32>
     requires { length text.now ≡ 8 }
     ensures { result ≡ model.serial_said text.now }
 {
-    digits(text)
-}
-
-// The number that at most eight digits say, with any leading zeros.
-fn digits(text: &[u8]) -> Option<u32>
-    requires { length text.now ≤ 8 }
-    ensures value { result ≡ cond (all_digits text.now) (Some (value_after 0 text.now)) None }
-    ensures range { IfSome result (λ n. n < 10 ^ length text.now) }
-{
-    let mut value: u32 = 0;
-    for c in text {
-        if !c.is_ascii_digit() {
-            return None;
-        }
-        value = 10 * value + u32::from(*c - b'0');
-    }
-    Some(value)
+    digits_word(text)
 }
 
 // How many decimals a text says by the place of its point.
@@ -217,7 +199,7 @@ fn number_said(text: &[u8]) -> Option<Number>
     let decimals = decimals_of(text);
     if decimals == 0 {
         return if text.len() == 8 {
-            numbered(digits(text), 0)
+            numbered(digits_word(text), 0)
         } else {
             None
         };
@@ -225,7 +207,10 @@ fn number_said(text: &[u8]) -> Option<Number>
     if text.len() != 9 {
         return None;
     }
-    numbered(digits(&without(text, 8 - usize::from(decimals))), decimals)
+    numbered(
+        digits_word(&without(text, 8 - usize::from(decimals))),
+        decimals,
+    )
 }
 
 fn numbered(digits: Option<u32>, decimals: u8) -> Option<Number>
@@ -247,27 +232,4 @@ fn without(text: &[u8], at: usize) -> [u8; 8]
     rest[..at].copy_from_slice(&text[..at]);
     rest[at..].copy_from_slice(&text[at + 1..]);
     rest
-}
-
-// The day that a text `YYYY-MM-DD` says, where the calendar has that date in 2000 to 2099.
-fn date_said(text: &[u8]) -> Option<Day>
-    ensures { option_map (λ day. day.number) result ≡ date_in text.now }
-{
-    let (year, month, day) = date_parts(text)?;
-    billing_memory::day_of(year, month, day)
-}
-
-// The year, month and day of a text of four, two and two digits with a dash between them.
-fn date_parts(text: &[u8]) -> Option<(u16, u8, u8)>
-    ensures { result ≡ cond (is_date_form text.now)
-        (Some (value_after 0 (take 4 text.now), value_after 0 (take 2 (drop 5 text.now)), value_after 0 (drop 8 text.now)))
-        None }
-{
-    if text.len() != 10 || text[4] != b'-' || text[7] != b'-' {
-        return None;
-    }
-    let year = digits(&text[..4])?;
-    let month = digits(&text[5..7])?;
-    let day = digits(&text[8..])?;
-    Some((year as u16, month as u8, day as u8))
 }

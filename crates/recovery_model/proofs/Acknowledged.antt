@@ -5,7 +5,7 @@ use Rattle.metering_model.specs.Records.{MeterRecord}
 use Rattle.trace_model.specs.Output.{OutputLine}
 use Rattle.script_model.specs.Grammar as grammar
 use Rattle.script_model.specs.Grammar.{Line, Metering, Power, Opt, Mbus}
-use Rattle.journal_model.specs.Texts.{armed_text, mbus_text}
+use Rattle.answer_model.specs.Texts.{armed_text, mbus_text}
 use Rattle.pairing_model.specs.Setup.{Setup, settings_in}
 use Rattle.pairing_model.specs.Journal.{Journal, in_force}
 use Rattle.pairing_model.specs.Pairing.{Acknowledges, IgnoresBytes, Interrupts, Pairs, Replies, RepliesToFrame, Restarts}

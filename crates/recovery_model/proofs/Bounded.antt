@@ -9,11 +9,12 @@ use Rattle.platinum_model.specs.Sample.{IsInRange}
 use Rattle.platinum_model.proofs.SensorKinds.{fits_pt100, fits_pt500, fits_pt1000}
 use Rattle.metering_model.specs.Events.{Kept}
 use Rattle.metering_model.specs.Records.{MeterRecord, StandsFor, bound_in, energy_in}
-use Rattle.metering_model.specs.Integral.{AllFitClosely, AllFitWithMargin, IsChoice, IsNear, Temps, counted_litres, exact_integral}
-use Rattle.metering_model.specs.Near.{AreNear, HasChoice, HasNanodegree}
-use Rattle.metering_model.proofs.Choices.{HaveFitting, all_are_near, all_have_choice, fitting-in_cell}
-use Rattle.metering_model.proofs.Joined.{margin-of-closely}
-use Rattle.config_model.specs.Configuration.{Configuration, is_sensor, is_calibration, flow_or_nominal, return_or_nominal}
+use Rattle.integral_model.specs.Integral.{AllFitClosely, AllFitWithMargin, IsChoice, IsNear, Temps, counted_litres, exact_integral}
+use Rattle.integral_model.specs.Near.{AreNear, HasChoice, HasNanodegree}
+use Rattle.integral_model.proofs.Choices.{HaveFitting, all_are_near, all_have_choice, fitting-in_cell}
+use Rattle.integral_model.proofs.Joined.{margin-of-closely}
+use Rattle.config_model.specs.Configuration.{Configuration, is_calibration, flow_or_nominal, return_or_nominal}
+use Rattle.parts_model.specs.Ranges.{is_sensor}
 use Rattle.trace_model.specs.Trace.{Trace}
 use Rattle.trace_model.specs.Output.{output_lines}
 use Rattle.pairing_model.specs.Settings.{settings_for}

@@ -16,7 +16,7 @@ use Rattle.script_model.specs.Grammar as grammar
 use Rattle.script_model.specs.Grammar.{Line, Metering, Power, Opt, Mbus}
 use Rattle.script_model.specs.Lines.{words_of}
 use Rattle.script_model.specs.Numbers.{all_digits, is_digit, value_after}
-use Rattle.journal_model.specs.Texts.{ok_text, power_text}
+use Rattle.answer_model.specs.Texts.{ok_text, power_text}
 use Rattle.trace_model.specs.Output.{OutputLine}
 use Rattle.frame_model.specs.Frames.{Frame}
 use Rattle.frame_model.proofs.Frames.{one_frame}

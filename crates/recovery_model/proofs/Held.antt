@@ -4,7 +4,8 @@ use Rattle.std.specs.Prelude.{if◌then◌else◌, slice_index, slice_get}
 use Rattle.std.proofs.lemmas.Bool.{leb-true}
 use Rattle.std.proofs.lemmas.List.FromFn.{length-map-range_with_len}
 use Rattle.platinum_model.specs.Calibration.{fits_r0, fits_a, fits_b}
-use Rattle.config_model.specs.Configuration.{Configuration, both, is_calibration, is_sensor}
+use Rattle.config_model.specs.Configuration.{Configuration, both, is_calibration}
+use Rattle.parts_model.specs.Ranges.{is_sensor}
 use Rattle.metering_model.specs.Records.{MeterRecord}
 use Rattle.memory_model.specs.Fields.{Field, first_broken, part, unless_broken, value}
 use Rattle.memory_model.specs.Header.{configuration_of, header_fields, header_in, sensor_field, are_calibrated, r0_field, a_field, b_field, constants_of}

@@ -11,7 +11,7 @@ use Rattle.metering_model.specs.Settings.{Settings}
 use Rattle.metering_model.specs.Records.{MeterRecord, litres_of}
 use Rattle.script_model.specs.Lines.{words_of}
 use Rattle.script_model.specs.Numbers.{all_digits, is_digit, is_number, value_after}
-use Rattle.journal_model.specs.Texts.{mbus_text, ok_text, opt_text, power_text, readout_text, reply_shown}
+use Rattle.answer_model.specs.Texts.{mbus_text, ok_text, opt_text, power_text, readout_text, reply_shown}
 use Rattle.recovery_model.specs.Shown.{number_of, number_shown}
 
 -- how a number is written

@@ -9,7 +9,7 @@ use Rattle.memory_model.specs.Slot.{record_in, record_of, record_fields, month_f
 use Rattle.memory_model.specs.Stored.{A, B, Holds, stored}
 use Rattle.memory_model.proofs.Worked.{header, in_8, memory_of, slot_text}
 use Rattle.optical_model.proofs.Worked.{after_three}
-use Rattle.show_model.proofs.Worked.{standard}
+use Rattle.config_model.specs.Standard.{standard}
 use Rattle.pairing_model.specs.Journal.{at_start}
 use Rattle.pairing_model.proofs.Worked.{answer_to_pulses, kept, opening}
 use Rattle.recovery_model.specs.Bounded.{held_events}

@@ -3,7 +3,7 @@ use Rattle.std.specs.Prelude.{◌⊎◌, ℕ, ◌+◌, ◌*◌, ◌≤◌, pos, 
 use Rattle.std.proofs.Common.{inl, inr}
 use Rattle.metering_model.specs.Events.{Kept}
 use Rattle.metering_model.specs.Records.{MeterRecord, StandsFor}
-use Rattle.metering_model.specs.Integral.{IsChoice, IsNear, Temps, counted_litres, exact_integral}
+use Rattle.integral_model.specs.Integral.{IsChoice, IsNear, Temps, counted_litres, exact_integral}
 use Rattle.config_model.specs.Configuration.{Configuration}
 use Rattle.trace_model.specs.Trace.{Trace}
 use Rattle.pairing_model.specs.Settings.{settings_for}

@@ -2,15 +2,15 @@
 use Rattle.std.specs.Prelude.{◌≡◌, ◌⊎◌, ℕ, ◌≤◌, ℤ, List, [], ◌∷◌, ◌++◌, length, None, Some, Ok, IsTrue, slice_get}
 use Rattle.metering_model.specs.Events.{Event, Kept}
 use Rattle.metering_model.specs.Records.{MeterRecord, StandsFor, record_after}
-use Rattle.metering_model.specs.Integral.{AllFitClosely}
+use Rattle.integral_model.specs.Integral.{AllFitClosely}
 use Rattle.script_model.specs.Grammar.{Metering, line_of}
 use Rattle.trace_model.specs.Trace.{Trace, Start, ◌▷◌}
 use Rattle.trace_model.specs.Output.{bytes_put, is_output_line, output_lines}
 use Rattle.trace_model.specs.Moments.{Leaves}
 use Rattle.config_model.specs.Configuration.{Configuration}
 use Rattle.memory_model.specs.Stored.{Side, Holds, stored}
-use Rattle.journal_model.specs.Faults.{fault_of}
-use Rattle.journal_model.specs.Texts.{armed_text}
+use Rattle.answer_model.specs.Faults.{fault_of}
+use Rattle.answer_model.specs.Texts.{armed_text}
 use Rattle.pairing_model.specs.Settings.{settings_for}
 use Rattle.pairing_model.specs.Setup.{Setup, on_memory, settings_in}
 use Rattle.pairing_model.specs.Journal.{Journal, at_start}

@@ -1,4 +1,5 @@
 ghost use Rattle.std.specs.Prelude.{◌≡◌, ℕ, ◌-◌, ◌≤◌, pos, ◌≤ℤ◌};
+ghost use Rattle.parts_model.specs.Ranges.{max_pressure_kpa, min_pressure_kpa};
 ghost use Rattle.interval_num.specs.Ends.{quotient_floor, quotient_ceil};
 ghost use Rattle.enclosure_sizes.specs.Size.{SizedBy};
 ghost use Rattle.region1_terms.specs.Variables.{HoldsX, x_size};
@@ -19,8 +20,8 @@ pub struct PressureVariable {
 impl PressureVariable {
     /// The variable at `pressure` kPa, 1,100 to 4,000.
     pub fn at(pressure: u32) -> PressureVariable
-        requires low { 1100 ≤ pressure }
-        requires high { pressure ≤ 4000 }
+        requires low { min_pressure_kpa ≤ pressure }
+        requires high { pressure ≤ max_pressure_kpa }
         ensures { result.pressure ≡ pressure }
     {
         PressureVariable {
@@ -32,8 +33,8 @@ impl PressureVariable {
 
 // x / 8 at `p` kPa
 fn x_eighth_at(p: u32) -> Enc<56>
-    requires low { 1100 ≤ p }
-    requires high { p ≤ 4000 }
+    requires low { min_pressure_kpa ≤ p }
+    requires high { p ≤ max_pressure_kpa }
     ensures lo { result.lo ≡ quotient_floor 56 (pos (117363 - p)) (pos 132240) }
     ensures hi { result.hi ≡ quotient_ceil 56 (pos (117363 - p)) (pos 132240) }
 {

@@ -1,4 +1,5 @@
 ghost use Rattle.std.specs.Prelude.{◌≡◌, ◌-◌, ◌*◌, ◌≤◌, pos, ◌≤ℤ◌};
+ghost use Rattle.number_model.specs.Enclosure.{max_ndeg};
 ghost use Rattle.interval_num.specs.Ends.{quotient_floor, quotient_ceil};
 ghost use Rattle.region1_terms.specs.Variables.{TauVariablesHold, TauVariablesSized, nanokelvin_of, rest_of};
 
@@ -40,7 +41,7 @@ pub(crate) fn hull(low: Enc<56>, high: Enc<56>) -> Enc<56>
 
 // the temperature in nanokelvin
 pub(crate) fn nanokelvin(t: u64) -> i128
-    requires { t ≤ 180000000000 }
+    requires { t ≤ max_ndeg }
     ensures { result ≡ pos (nanokelvin_of t) }
 {
     273_150_000_000 + i128::from(t)
@@ -48,7 +49,7 @@ pub(crate) fn nanokelvin(t: u64) -> i128
 
 // 1 / tau at t nanodegrees
 fn inverse_tau_at(t: u64) -> Enc<56>
-    requires { t ≤ 180000000000 }
+    requires { t ≤ max_ndeg }
     ensures lo { result.lo ≡ quotient_floor 56 (pos (nanokelvin_of t)) (pos 1386000000000) }
     ensures hi { result.hi ≡ quotient_ceil 56 (pos (nanokelvin_of t)) (pos 1386000000000) }
 {
@@ -57,7 +58,7 @@ fn inverse_tau_at(t: u64) -> Enc<56>
 
 // y / tau at t nanodegrees
 fn y_over_tau_at(t: u64) -> Enc<56>
-    requires { t ≤ 180000000000 }
+    requires { t ≤ max_ndeg }
     ensures lo { result.lo ≡ quotient_floor 56 (pos (rest_of t)) (pos 1386000000000000) }
     ensures hi { result.hi ≡ quotient_ceil 56 (pos (rest_of t)) (pos 1386000000000000) }
 {

@@ -1,4 +1,5 @@
 ghost use Rattle.std.specs.Prelude.{◌≡◌, ◌-◌, ◌*◌, ◌≤◌, pos, ◌≤ℤ◌};
+ghost use Rattle.number_model.specs.Enclosure.{max_ndeg};
 ghost use Rattle.interval_num.specs.Ends.{quotient_floor, quotient_ceil};
 ghost use Rattle.region1_terms.specs.Variables.{VariablesHold, VariablesSized, nanokelvin_of, rest_of};
 
@@ -31,7 +32,7 @@ impl Variables {
 
 // y / 4 at t nanodegrees
 fn y_quarter_at(t: u64) -> Enc<56>
-    requires { t ≤ 180000000000 }
+    requires { t ≤ max_ndeg }
     ensures lo { result.lo ≡ quotient_floor 56 (pos (rest_of t)) (pos (4000 * nanokelvin_of t)) }
     ensures hi { result.hi ≡ quotient_ceil 56 (pos (rest_of t)) (pos (4000 * nanokelvin_of t)) }
 {
@@ -41,7 +42,7 @@ fn y_quarter_at(t: u64) -> Enc<56>
 
 // 1 / y at t nanodegrees
 fn inverse_y_at(t: u64) -> Enc<56>
-    requires { t ≤ 180000000000 }
+    requires { t ≤ max_ndeg }
     ensures lo { result.lo ≡ quotient_floor 56 (pos (1000 * nanokelvin_of t)) (pos (rest_of t)) }
     ensures hi { result.hi ≡ quotient_ceil 56 (pos (1000 * nanokelvin_of t)) (pos (rest_of t)) }
 {

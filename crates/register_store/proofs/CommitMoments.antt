@@ -11,11 +11,13 @@ use Rattle.memory_model.specs.Slot.{record_in}
 use Rattle.memory_model.specs.Stored.{Side, A, B, Holds, Unformatted, stored, stored_on, stored_from, with_header, chosen, side_of, slot_at}
 use Rattle.trace_model.specs.Trace.{Trace}
 use Rattle.trace_model.specs.Images.{IsImage, NothingPending, SameOutside, is_within, replaced}
-use Rattle.trace_model.specs.Moments.{Grew, Leaves}
-use Rattle.trace_model.proofs.Moments.{Grew-weaker}
+use Rattle.trace_model.specs.Moments.{Leaves}
+use Rattle.meter_board.specs.declared.refusal.Refusal.{Refusal}
 use Rattle.meter_board.proofs.Stretches.{settled_leaves}
 use Rattle.trace_model.proofs.Images.{replaced_outside}
-use Rattle.register_store.specs.Commits.{StandsFor, StandsOn, HoldsEither, SlotHolds, EndsCut, other, gate_of}
+use Rattle.register_store.proofs.StoreMoments.{keeps_weaker}
+use Rattle.register_store.specs.Works.{KeepsTo}
+use Rattle.register_store.specs.Commits.{StandsFor, StandsOn, HoldsEither, SlotHolds, other, gate_of}
 
 -- ---- a memory that stands for a configuration and a record, by its parts
 
@@ -160,9 +162,6 @@ turned_holds c r r' side side' m n is held size turned =
 
 -- ---- the calls
 
-EndsCut-weaker : {P Q : List ℕ → Type 0} {t : Trace} {reads : List ℕ} → ((image : List ℕ) → P image → Q image) → EndsCut P t reads → EndsCut Q t reads
-EndsCut-weaker {P} {Q} {t} {reads} w e = record { before = e.before; last = e.last; image = w reads e.image }
-
 -- a store of this many bytes into the slot that isn't chosen
 module _ (side : Side) (m : List ℕ) (s : StandsOn side m) (size : length m ≡ 16384) (at : ℕ) (bytes : List ℕ) (place : at ≡ slot_at (other side)) (count : length bytes ≡ 1280) where
   near_slot : (image : List ℕ) → SameOutside at (length bytes) m image → SameOutside (slot_at (other side)) 1280 m image
@@ -171,11 +170,8 @@ module _ (side : Side) (m : List ℕ) (s : StandsOn side m) (size : length m ≡
   stands_near : (image : List ℕ) → SameOutside at (length bytes) m image → StandsFor (stored m) image
   stands_near image near = filling_stands side m image s size (near_slot image near)
 
-  pub fill_moments : {t t' : Trace} → Grew (Leaves (SameOutside at (length bytes) m)) t t' → Grew (Leaves (StandsFor (stored m))) t t'
-  fill_moments = Grew-weaker (λ t leaves image of. stands_near image (leaves image of))
-
-  pub fill_left : {t : Trace} {reads : List ℕ} → EndsCut (SameOutside at (length bytes) m) t reads → EndsCut (StandsFor (stored m)) t reads
-  fill_left = EndsCut-weaker stands_near
+  pub fill_keeps : {T : Type 0} {result : Result T Refusal} {t t' : Trace} {reads : List ℕ} → KeepsTo (SameOutside at (length bytes) m) result t t' reads → KeepsTo (StandsFor (stored m)) result t t' reads
+  fill_keeps k = keeps_weaker stands_near k
 
   slot_fits : at + length bytes ≤ length m
   slot_fits = fits side place where
@@ -194,19 +190,16 @@ module _ (side : Side) (m : List ℕ) (s : StandsOn side m) (size : length m ≡
 
 -- a store of one byte as the gate
 module _ (c : Configuration) (r r' : MeterRecord) (side : Side) (m : List ℕ) (is : StandsFor (Holds c r side) m) (held : SlotHolds (other side) r' m) (size : length m ≡ 16384) where
-  pub turn_moments : {t t' : Trace} → Grew (Leaves (SameOutside 256 1 m)) t t' → Grew (Leaves (HoldsEither c side r r')) t t'
-  turn_moments = Grew-weaker (λ t leaves image of. turning_holds c r r' side m image is held size (leaves image of))
-
-  pub turn_left : {t : Trace} {reads : List ℕ} → EndsCut (SameOutside 256 1 m) t reads → EndsCut (HoldsEither c side r r') t reads
-  turn_left = EndsCut-weaker (λ image near. turning_holds c r r' side m image is held size near)
+  pub turn_keeps : {T : Type 0} {result : Result T Refusal} {t t' : Trace} {reads : List ℕ} → KeepsTo (SameOutside 256 1 m) result t t' reads → KeepsTo (HoldsEither c side r r') result t t' reads
+  turn_keeps k = keeps_weaker (λ image near. turning_holds c r r' side m image is held size near) k
 
   pub turn_holds : (new : List ℕ) → new ≡ replaced m 256 (gate_of (other side) ∷ []) → StandsFor (Holds c r' (other side)) new
   turn_holds new turned = turned_holds c r r' side (other side) m new is held size turned
 
 -- what stands for the same holds the old record
 module _ (c : Configuration) (r r' : MeterRecord) (side : Side) (m : List ℕ) (is : StandsFor (Holds c r side) m) where
-  pub old_moments : {t t' : Trace} → Grew (Leaves (StandsFor (stored m))) t t' → Grew (Leaves (HoldsEither c side r r')) t t'
-  old_moments = Grew-weaker (λ t leaves image of. inl (leaves image of ∙ is))
+  pub old_keeps : {T : Type 0} {result : Result T Refusal} {t t' : Trace} {reads : List ℕ} → KeepsTo (StandsFor (stored m)) result t t' reads → KeepsTo (HoldsEither c side r r') result t t' reads
+  old_keeps k = keeps_weaker (λ image same. inl (same ∙ is)) k
 
 -- on Ok, where nothing is pending, what is read is each image
 pub ok_leaves : {T E : Type 0} (Q : List ℕ → Type 0) (result : Result T E) (t : Trace) (reads : List ℕ) → OnOk result (Q reads) → OnOk result (NothingPending t) → IsImage t reads → OnOk result (Leaves Q t)

@@ -50,7 +50,7 @@ marked_holds c r old m bytes size s near marked =
     subst (HoldsInA c r) (sym (parts_of m (bytes ++ drop 1792 old) 165 (omega (arith, whole)) marked (behind_first old m bytes size s.size near))) (spelled_holds c r bytes (drop 1792 old) s)
 
 -- the first byte that was read is not the mark
-pub not_marked : (m into : List ℕ) → into ≡ take 1 m → get_or into 0 0 ≢ 165 → get_or m 0 0 ≢ 165
+not_marked : (m into : List ℕ) → into ≡ take 1 m → get_or into 0 0 ≢ 165 → get_or m 0 0 ≢ 165
 not_marked m into is other marked = other (ap (λ (l : List ℕ). get_or l 0 0) is ∙ get_or-take 1 m 0 0 (omega arith) ∙ marked)
 
 -- while the bytes behind the mark are stored
@@ -67,7 +67,7 @@ at_mark c r old m bytes size s near =
 
 -- the two of them
 module _ (c : Configuration) (r : MeterRecord) (old bytes : List ℕ) (size : length old ≡ 16384) where
-  pub first_moments : {t t' : Trace} → get_or old 0 0 ≢ 165 → Grew (Leaves (SameOutside 1 (length bytes) old)) t t' → Grew (Leaves (UnformattedOr c r)) t t'
+  first_moments : {t t' : Trace} → get_or old 0 0 ≢ 165 → Grew (Leaves (SameOutside 1 (length bytes) old)) t t' → Grew (Leaves (UnformattedOr c r)) t t'
   first_moments unformatted = Grew-weaker (λ s leaves image of. before_mark c r old image bytes size unformatted (leaves image of))
 
   pub second_moments : (mid : List ℕ) {t t' : Trace} → Spells c r bytes → mid ≡ replaced old 1 bytes → Grew (Leaves (SameOutside 0 1 mid)) t t' → Grew (Leaves (UnformattedOr c r)) t t'
@@ -79,6 +79,13 @@ module _ (c : Configuration) (r : MeterRecord) (old bytes : List ℕ) (size : le
       let near : SameOutside 0 1 mid new = subst (SameOutside 0 1 mid) (sym is') (replaced_outside mid (165 ∷ []) 0 (omega (arith, whole))) in
       let here : HoldsInA c r new = marked_holds c r old new bytes size s (subst (λ (l : List ℕ). SameOutside 0 1 l new) is near) (ap (λ (l : List ℕ). get_or l 0 0) is') in
       subst (HoldsInA c r) (one_image t new image none possible of) here
+
+-- the first of them, behind a load that left all as it was
+pub first_part : (c : Configuration) (r : MeterRecord) (before after into bytes : List ℕ) (t t' t'' : Trace) → length after ≡ 16384 → into ≡ take 1 before → after ≡ before → t' ≡ t → get_or into 0 0 ≢ 165
+    → Grew (Leaves (SameOutside 1 (length bytes) after)) t' t'' → Grew (Leaves (UnformattedOr c r)) t t''
+first_part c r before after into bytes t t' t'' size read same quiet other grew =
+    let unformatted : get_or after 0 0 ≢ 165 = not_marked after into (read ∙ ap (λ (l : List ℕ). take 1 l) (sym same)) other in
+    subst (λ (s : Trace). Grew (Leaves (UnformattedOr c r)) s t'') quiet (first_moments c r after bytes size unformatted grew)
 
 -- the header at the front of zeros, and the slot behind the zeros that follow it
 pub laid_spells : (c : Configuration) (r : MeterRecord) (blank first out header slot : List ℕ) → length header ≡ 255 → length slot ≡ 1280 → blank ≡ zeros 1791 → first ≡ replaced blank 0 header → out ≡ replaced first 511 slot

@@ -8,9 +8,11 @@ use Rattle.trace_model.specs.Trace.{Entry, Store, Sync, Missed, Put, Arm, Cut, T
 use Rattle.trace_model.specs.Output.{bytes_put, is_output_line, open_segment, output_lines}
 use Rattle.trace_model.specs.Moments.{Grew, same, more}
 use Rattle.trace_model.proofs.Moments.{Grew-weaker}
-use Rattle.register_store.specs.declared.store_fault.StoreFault.{StoreFault}
-use Rattle.register_store.specs.declared.store_fault.StoreFault.TheVariants as faults
-use Rattle.register_store.specs.Works.{WorksBy, count_of, is_other}
+use Rattle.meter_board.specs.declared.refusal.Refusal.{Refusal}
+use Rattle.meter_board.specs.declared.refusal.Refusal.TheVariants as refusals
+use Rattle.register_store.specs.declared.format_fault.FormatFault.{FormatFault}
+use Rattle.register_store.specs.declared.format_fault.FormatFault.TheVariants as faults
+use Rattle.register_store.specs.Works.{FormatWorks, WorksBy, count_of, is_other}
 
 -- the trace goes on by these entries
 abbrev pub with_entries : Trace → List Entry → Trace
@@ -109,10 +111,13 @@ front_counts old entries t kind f =
     omega (arith, f.alone.counts kind, ap (λ (l : List Entry). count_by kind l) f.is, sum_by-append (λ (x : Entry). cond (kind x) 1 0) f.front f.rest)
 
 -- so it is with each call that stores, whatever it answered
-pub works_alone : {T : Type 0} (n : ℕ) (result : Result T StoreFault) (old new : Trace) → WorksBy n result old new → count_of is_other new ≡ count_of is_other old
+pub works_alone : {T : Type 0} (n : ℕ) (result : Result T Refusal) (old new : Trace) → WorksBy n result old new → count_of is_other new ≡ count_of is_other old
 works_alone n (Ok x) old new works = works.others
-works_alone n (Err faults.Memory) old new works = works.others
-works_alone n (Err faults.Cut) old new works = works.others
-works_alone n (Err faults.Formatted) old new works = ap (count_of is_other) works
-works_alone n (Err (faults.Unformatted byte)) old new works = absurd works
-works_alone n (Err (faults.Foreign at)) old new works = absurd works
+works_alone n (Err refusals.Failed) old new works = works.others
+works_alone n (Err refusals.Cut) old new works = works.others
+
+pub format_alone : {T : Type 0} (result : Result T FormatFault) (old new : Trace) → FormatWorks result old new → count_of is_other new ≡ count_of is_other old
+format_alone (Ok x) old new works = works.others
+format_alone (Err faults.Formatted) old new works = ap (count_of is_other) works
+format_alone (Err faults.Memory) old new works = works.others
+format_alone (Err faults.Cut) old new works = works.others

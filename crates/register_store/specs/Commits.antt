@@ -3,7 +3,7 @@ use Rattle.std.specs.Prelude.{◌≡◌, ◌⊎◌, ℕ, true, List, Ok}
 use Rattle.config_model.specs.Configuration.{Configuration}
 use Rattle.metering_model.specs.Records.{MeterRecord}
 use Rattle.memory_model.specs.Fields.{part}
-use Rattle.memory_model.specs.Slot.{record_in}
+use Rattle.memory_model.specs.Slot.{record_in, slot_size}
 use Rattle.memory_model.specs.Stored.{Side, A, B, Stored, Holds, slot_at, stored}
 use Rattle.trace_model.specs.Trace.{Trace, Cut, ◌▷◌}
 
@@ -33,7 +33,7 @@ HoldsEither c side old new image = StandsFor (Holds c old side) image ⊎ Stands
 
 -- the slot of a side holds this record, whichever side the gate chooses
 abbrev pub SlotHolds : Side → MeterRecord → List ℕ → Type 0
-SlotHolds side r memory = record_in (part (slot_at side) 1280 memory) ≡ Ok r
+SlotHolds side r memory = record_in (part (slot_at side) slot_size memory) ≡ Ok r
 
 -- the configuration with the old record on this side, and the new one in the other slot
 pub record HoldsBoth (c : Configuration) (side : Side) (old new : MeterRecord) (memory : List ℕ) : Type 0 where

@@ -4,7 +4,7 @@ use Rattle.config_model.specs.Configuration.{Configuration}
 use Rattle.metering_model.specs.Records.{MeterRecord}
 use Rattle.memory_model.specs.Fields.{part}
 use Rattle.memory_model.specs.Header.{header_in}
-use Rattle.memory_model.specs.Slot.{record_in}
+use Rattle.memory_model.specs.Slot.{record_in, slot_size}
 use Rattle.memory_model.specs.Stored.{Holds, A, mark, stored}
 
 -- the configuration, with the record in slot A
@@ -20,4 +20,4 @@ pub record Spells (c : Configuration) (r : MeterRecord) (bytes : List ℕ) : Typ
   pub size : length bytes ≡ 1791
   pub header : header_in (mark ∷ take 255 bytes) ≡ Ok c
   pub gate : slice_index bytes 255 ≡ 0
-  pub slot : record_in (part 511 1280 bytes) ≡ Ok r
+  pub slot : record_in (part 511 slot_size bytes) ≡ Ok r

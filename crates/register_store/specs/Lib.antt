@@ -2,6 +2,6 @@ pub mod Faults
 pub mod Loads
 pub mod Looks
 pub mod Recovered
-pub mod Works
 pub mod Formatted
 pub mod Commits
+pub mod Works

@@ -5,8 +5,8 @@ use Rattle.memory_model.specs.Slots as model
 use Rattle.memory_model.specs.Slots.{look}
 use Rattle.state_codec.specs.declared.foreign.Foreign.{Foreign}
 use Rattle.register_store.specs.declared.looking.Slots.{Slots}
-use Rattle.register_store.specs.declared.store_fault.StoreFault.{StoreFault}
-use Rattle.register_store.specs.declared.store_fault.StoreFault.TheVariants as faults
+use Rattle.register_store.specs.declared.unreadable.Unreadable.{Unreadable}
+use Rattle.register_store.specs.declared.unreadable.Unreadable.TheVariants as reasons
 
 -- the side that the gate chooses by its lowest bit
 abbrev pub gate_view : (odd : Bool) → Side
@@ -18,10 +18,8 @@ slot_view (Ok events) = Ok events
 slot_view (Err foreign) = Err foreign.at
 
 -- what both slots show, unless the memory failed
-abbrev pub LookGives : Result Slots StoreFault → List ℕ → Type 0
+abbrev pub LookGives : Result Slots Unreadable → List ℕ → Type 0
 LookGives (Ok slots) memory = look memory ≡ model.Slots (gate_view slots.odd) (slot_view slots.a) (slot_view slots.b)
-LookGives (Err (faults.Unformatted byte)) memory = look memory ≡ model.Unformatted byte
-LookGives (Err (faults.Foreign at)) memory = look memory ≡ model.Foreign at
-LookGives (Err faults.Formatted) memory = ⊥
-LookGives (Err faults.Memory) memory = Unit {0}
-LookGives (Err faults.Cut) memory = ⊥
+LookGives (Err (reasons.Unformatted byte)) memory = look memory ≡ model.Unformatted byte
+LookGives (Err (reasons.Foreign at)) memory = look memory ≡ model.Foreign at
+LookGives (Err reasons.Memory) memory = Unit {0}

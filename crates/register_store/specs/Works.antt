@@ -1,8 +1,13 @@
 -- What a call that stores added to the trace.
-use Rattle.std.specs.Prelude.{◌≡◌, ℕ, ◌+◌, ◌≤◌, Bool, true, false, Result, Ok, Err, if◌then◌else◌}
+use Rattle.std.specs.Prelude.{◌≡◌, ℕ, ◌+◌, ◌≤◌, Bool, true, false, List, Result, Ok, Err, OnOk, IsErrOf, if◌then◌else◌}
 use Rattle.trace_model.specs.Trace.{Entry, Store, Sync, Missed, Put, Arm, Cut, Trace, Start, ◌▷◌}
-use Rattle.register_store.specs.declared.store_fault.StoreFault.{StoreFault}
-use Rattle.register_store.specs.declared.store_fault.StoreFault.TheVariants as faults
+use Rattle.trace_model.specs.Images.{NothingPending}
+use Rattle.trace_model.specs.Moments.{Grew, Leaves}
+use Rattle.meter_board.specs.declared.refusal.Refusal.{Refusal}
+use Rattle.meter_board.specs.declared.refusal.Refusal.TheVariants as refusals
+use Rattle.register_store.specs.declared.format_fault.FormatFault.{FormatFault}
+use Rattle.register_store.specs.declared.format_fault.FormatFault.TheVariants as faults
+use Rattle.register_store.specs.Commits.{EndsCut}
 
 -- how many entries are of a kind
 abbrev pub count_of : (Entry → Bool) → Trace → ℕ
@@ -50,27 +55,25 @@ pub record Works (n cuts : ℕ) (old new : Trace) : Type 0 where
   pub forced_cuts : count_of is_forced_cut new ≡ count_of is_forced_cut old + cuts
   pub others : count_of is_other new ≡ count_of is_other old
 
--- by what was answered: a cut where it is Cut alone, and nothing at all where the memory is formatted
-abbrev pub WorksBy : {T : Type 0} → ℕ → Result T StoreFault → Trace → Trace → Type 0
+-- by what was answered: a cut where it is Cut alone
+abbrev pub WorksBy : {T : Type 0} → ℕ → Result T Refusal → Trace → Trace → Type 0
 WorksBy n (Ok x) old new = Works n 0 old new
-WorksBy n (Err faults.Memory) old new = Works n 0 old new
-WorksBy n (Err faults.Cut) old new = Works n 1 old new
-WorksBy n (Err faults.Formatted) old new = new ≡ old
-WorksBy n (Err (faults.Unformatted byte)) old new = ⊥
-WorksBy n (Err (faults.Foreign at)) old new = ⊥
+WorksBy n (Err refusals.Failed) old new = Works n 0 old new
+WorksBy n (Err refusals.Cut) old new = Works n 1 old new
 
--- a refusal that comes from the board
-abbrev pub IsMemoryOrCut : StoreFault → Type 0
-IsMemoryOrCut faults.Memory = Unit {0}
-IsMemoryOrCut faults.Cut = Unit {0}
-IsMemoryOrCut faults.Formatted = ⊥
-IsMemoryOrCut (faults.Unformatted byte) = ⊥
-IsMemoryOrCut (faults.Foreign at) = ⊥
+-- of a format, which does nothing at all where the memory is formatted
+abbrev pub FormatWorks : {T : Type 0} → Result T FormatFault → Trace → Trace → Type 0
+FormatWorks (Ok x) old new = Works 2 0 old new
+FormatWorks (Err faults.Formatted) old new = new ≡ old
+FormatWorks (Err faults.Memory) old new = Works 2 0 old new
+FormatWorks (Err faults.Cut) old new = Works 2 1 old new
 
--- and one of a memory that is formatted
-abbrev pub IsFormatFault : StoreFault → Type 0
-IsFormatFault faults.Memory = Unit {0}
-IsFormatFault faults.Cut = Unit {0}
-IsFormatFault faults.Formatted = Unit {0}
-IsFormatFault (faults.Unformatted byte) = ⊥
-IsFormatFault (faults.Foreign at) = ⊥
+-- at most n stores, each of which is settled before the call ends well
+pub record StoresSettled {T : Type 0} (n : ℕ) (result : Result T Refusal) (old new : Trace) : Type 0 where
+  pub works : WorksBy n result old new
+  pub settled : OnOk result (NothingPending new)
+
+-- each image on the way has Q, and where the power failed what it left and what is read now
+pub record KeepsTo {T : Type 0} (Q : List ℕ → Type 0) (result : Result T Refusal) (old new : Trace) (reads : List ℕ) : Type 0 where
+  pub moments : Grew (Leaves Q) old new
+  pub at_cut : IsErrOf result refusals.Cut → EndsCut Q new reads

@@ -1,74 +1,60 @@
 //! A record that takes the place of the one in force.
 
-ghost use Rattle.std.specs.Prelude.{◌≡◌, ◌∷◌, ◌≤◌, [], IfErr, IfOk, IsErrOf, OnOk};
+ghost use Rattle.std.specs.Prelude.{◌≡◌, ◌∷◌, [], IfOk, OnOk};
+ghost use Rattle.memory_model.specs.Slot.{slot_size};
 ghost use Rattle.config_model.specs.Configuration.{Configuration};
 ghost use Rattle.metering_model.specs.Records as metering;
 ghost use Rattle.billing_memory.specs.Records.{record_view};
 ghost use Rattle.memory_model.specs.Stored.{Holds, slot_at, stored};
 ghost use Rattle.trace_model.specs.Images.{NothingPending, SameOutside, replaced};
-ghost use Rattle.trace_model.specs.Moments.{Grew, Leaves};
-ghost use Rattle.meter_board.specs.Causes.{Rose};
-ghost use Rattle.register_store.specs.declared.store_fault.StoreFault.TheVariants.{Memory, Cut};
-ghost use Rattle.register_store.specs.Commits.{EndsCut, HoldsBoth, HoldsEither, SlotHolds, StandsFor, StandsOn, gate_of, other};
+ghost use Rattle.trace_model.specs.Moments.{Leaves};
+ghost use Rattle.meter_board.specs.Causes.{CausedBy, RefusalCause};
+ghost use Rattle.register_store.specs.Commits.{HoldsBoth, HoldsEither, SlotHolds, StandsFor, StandsOn, gate_of, other};
 ghost use Rattle.register_store.specs.Recovered.{side_view};
-ghost use Rattle.register_store.specs.Works.{WorksBy, IsMemoryOrCut};
+ghost use Rattle.register_store.specs.Works.{KeepsTo, StoresSettled};
 
+use crate::Side;
 use crate::layout::{GATE_AT, gate_byte, other_side, slot_place};
 use crate::settling::store_settled;
-use crate::{Side, StoreFault};
 use billing_memory::MeterRecord;
-use meter_board::Board;
+use meter_board::{Board, Refusal};
 use state_codec::encode_record;
 
 /// Lets the slot that isn't `side` hold the record. The record of `side` stays in force.
 ///
 /// # Errors
-/// [`StoreFault::Memory`] where the memory failed, [`StoreFault::Cut`] where the power failed. Then any bytes may
+/// [`Refusal::Failed`] where the memory failed, [`Refusal::Cut`] where the power failed. Then any bytes may
 /// stand in that slot.
-pub fn fill_slot<B: Board>(board: &mut B, side: Side, m: &MeterRecord) -> Result<(), StoreFault>
+pub fn fill_slot<B: Board>(board: &mut B, side: Side, m: &MeterRecord) -> Result<(), Refusal>
     requires settled { B.tells → NothingPending (B.trace board.old) }
     requires stands { B.tells → StandsOn (side_view side) (B.reads board.old) }
-    ensures moments { B.tells → Grew (Leaves (StandsFor (stored (B.reads board.old)))) (B.trace board.old) (B.trace board.new) }
+    ensures moments { B.tells → KeepsTo (StandsFor (stored (B.reads board.old))) result (B.trace board.old) (B.trace board.new) (B.reads board.new) }
     ensures slot { B.tells → OnOk result (SlotHolds (other (side_view side)) (record_view m.now) (B.reads board.new)) }
     ensures same { B.tells → OnOk result (StandsFor (stored (B.reads board.old)) (B.reads board.new)) }
-    ensures outside { B.tells → OnOk result (SameOutside (slot_at (other (side_view side))) 1280 (B.reads board.old) (B.reads board.new)) }
-    ensures settled { B.tells → OnOk result (NothingPending (B.trace board.new)) }
-    ensures at_cut { B.tells → IsErrOf result Cut → EndsCut (StandsFor (stored (B.reads board.old))) (B.trace board.new) (B.reads board.new) }
-    ensures works { B.tells → WorksBy 1 result (B.trace board.old) (B.trace board.new) }
-    ensures kind { IfErr result IsMemoryOrCut }
-    ensures memory { IsErrOf result Memory → Rose (B.memory_faults board.old) (B.memory_faults board.new) }
-    ensures cut { IsErrOf result Cut → Rose (B.cuts board.old) (B.cuts board.new) }
-    ensures memory_faults { B.memory_faults board.old ≤ B.memory_faults board.new }
-    ensures output_faults { B.output_faults board.old ≤ B.output_faults board.new }
-    ensures cuts { B.cuts board.old ≤ B.cuts board.new }
+    ensures outside { B.tells → OnOk result (SameOutside (slot_at (other (side_view side))) slot_size (B.reads board.old) (B.reads board.new)) }
+    ensures stores { B.tells → StoresSettled 1 result (B.trace board.old) (B.trace board.new) }
+    ensures cause { CausedBy RefusalCause (B.faults board.old) (B.faults board.new) result }
 {
-    store_settled(board, slot_place(other_side(side)), &encode_record(m))
+    let filled = other_side(side);
+    store_settled(board, slot_place(filled), &encode_record(m))
 }
 
 /// Lets the gate choose the slot that isn't `side`, so that its record is in force, and answers its side.
 ///
 /// # Errors
-/// [`StoreFault::Memory`] where the memory failed, [`StoreFault::Cut`] where the power failed. Then the record of
+/// [`Refusal::Failed`] where the memory failed, [`Refusal::Cut`] where the power failed. Then the record of
 /// either slot may be in force.
-pub fn turn_gate<B: Board>(board: &mut B, side: Side) -> Result<Side, StoreFault>
+pub fn turn_gate<B: Board>(board: &mut B, side: Side) -> Result<Side, Refusal>
     requires settled { B.tells → NothingPending (B.trace board.old) }
     requires stands { B.tells → StandsOn (side_view side) (B.reads board.old) }
     ensures moments { B.tells → (c : Configuration) (r r' : metering.MeterRecord) → HoldsBoth c (side_view side) r r' (B.reads board.old)
-        → Grew (Leaves (HoldsEither c (side_view side) r r')) (B.trace board.old) (B.trace board.new) }
+        → KeepsTo (HoldsEither c (side_view side) r r') result (B.trace board.old) (B.trace board.new) (B.reads board.new) }
     ensures ok { B.tells → (c : Configuration) (r r' : metering.MeterRecord) → HoldsBoth c (side_view side) r r' (B.reads board.old)
         → OnOk result (StandsFor (Holds c r' (other (side_view side))) (B.reads board.new)) }
     ensures gate { B.tells → OnOk result (B.reads board.new ≡ replaced (B.reads board.old) 256 (gate_of (other (side_view side)) ∷ [])) }
-    ensures settled { B.tells → OnOk result (NothingPending (B.trace board.new)) }
-    ensures at_cut { B.tells → (c : Configuration) (r r' : metering.MeterRecord) → HoldsBoth c (side_view side) r r' (B.reads board.old)
-        → IsErrOf result Cut → EndsCut (HoldsEither c (side_view side) r r') (B.trace board.new) (B.reads board.new) }
     ensures side { IfOk result (λ turned. side_view turned ≡ other (side_view side)) }
-    ensures works { B.tells → WorksBy 1 result (B.trace board.old) (B.trace board.new) }
-    ensures kind { IfErr result IsMemoryOrCut }
-    ensures memory { IsErrOf result Memory → Rose (B.memory_faults board.old) (B.memory_faults board.new) }
-    ensures cut { IsErrOf result Cut → Rose (B.cuts board.old) (B.cuts board.new) }
-    ensures memory_faults { B.memory_faults board.old ≤ B.memory_faults board.new }
-    ensures output_faults { B.output_faults board.old ≤ B.output_faults board.new }
-    ensures cuts { B.cuts board.old ≤ B.cuts board.new }
+    ensures stores { B.tells → StoresSettled 1 result (B.trace board.old) (B.trace board.new) }
+    ensures cause { CausedBy RefusalCause (B.faults board.old) (B.faults board.new) result }
 {
     let turned = other_side(side);
     store_settled(board, GATE_AT, &[gate_byte(turned)])?;
@@ -79,28 +65,20 @@ pub fn turn_gate<B: Board>(board: &mut B, side: Side) -> Result<Side, StoreFault
 /// that isn't `side`. Answers the side of this slot.
 ///
 /// # Errors
-/// [`StoreFault::Memory`] where the memory failed, [`StoreFault::Cut`] where the power failed. Then either record
+/// [`Refusal::Failed`] where the memory failed, [`Refusal::Cut`] where the power failed. Then either record
 /// may be in force, and the memory is recovered before it is used again.
-pub fn commit<B: Board>(board: &mut B, side: Side, m: &MeterRecord) -> Result<Side, StoreFault>
+pub fn commit<B: Board>(board: &mut B, side: Side, m: &MeterRecord) -> Result<Side, Refusal>
     requires settled { B.tells → NothingPending (B.trace board.old) }
     requires stands { B.tells → StandsOn (side_view side) (B.reads board.old) }
     ensures moments { B.tells → (c : Configuration) (r : metering.MeterRecord) → StandsFor (Holds c r (side_view side)) (B.reads board.old)
-        → Grew (Leaves (HoldsEither c (side_view side) r (record_view m.now))) (B.trace board.old) (B.trace board.new) }
+        → KeepsTo (HoldsEither c (side_view side) r (record_view m.now)) result (B.trace board.old) (B.trace board.new) (B.reads board.new) }
     ensures ok { B.tells → (c : Configuration) (r : metering.MeterRecord) → StandsFor (Holds c r (side_view side)) (B.reads board.old)
         → OnOk result (StandsFor (Holds c (record_view m.now) (other (side_view side))) (B.reads board.new)) }
     ensures leaves { B.tells → (c : Configuration) (r : metering.MeterRecord) → StandsFor (Holds c r (side_view side)) (B.reads board.old)
         → OnOk result (Leaves (StandsFor (Holds c (record_view m.now) (other (side_view side)))) (B.trace board.new)) }
-    ensures settled { B.tells → OnOk result (NothingPending (B.trace board.new)) }
-    ensures at_cut { B.tells → (c : Configuration) (r : metering.MeterRecord) → StandsFor (Holds c r (side_view side)) (B.reads board.old)
-        → IsErrOf result Cut → EndsCut (HoldsEither c (side_view side) r (record_view m.now)) (B.trace board.new) (B.reads board.new) }
     ensures side { IfOk result (λ turned. side_view turned ≡ other (side_view side)) }
-    ensures works { B.tells → WorksBy 2 result (B.trace board.old) (B.trace board.new) }
-    ensures kind { IfErr result IsMemoryOrCut }
-    ensures memory { IsErrOf result Memory → Rose (B.memory_faults board.old) (B.memory_faults board.new) }
-    ensures cut { IsErrOf result Cut → Rose (B.cuts board.old) (B.cuts board.new) }
-    ensures memory_faults { B.memory_faults board.old ≤ B.memory_faults board.new }
-    ensures output_faults { B.output_faults board.old ≤ B.output_faults board.new }
-    ensures cuts { B.cuts board.old ≤ B.cuts board.new }
+    ensures stores { B.tells → StoresSettled 2 result (B.trace board.old) (B.trace board.new) }
+    ensures cause { CausedBy RefusalCause (B.faults board.old) (B.faults board.new) result }
 {
     fill_slot(board, side, m)?;
     turn_gate(board, side)

@@ -1,18 +1,19 @@
 //! A memory that holds the first record of a meter.
 
-ghost use Rattle.std.specs.Prelude.{◌≡◌, ◌+◌, ◌≤◌, ◌⊎◌, length, slice_index, IfErr, IsErrOf, OnOk};
+ghost use Rattle.std.specs.Prelude.{◌≡◌, ◌+◌, ◌≤◌, ◌⊎◌, length, slice_index, IsErrOf, OnOk};
 ghost use Rattle.meter_config.specs.Views.{config_view};
 ghost use Rattle.billing_memory.specs.Records.{record_view};
 ghost use Rattle.memory_model.specs.Stored.{mark};
 ghost use Rattle.trace_model.specs.Images.{NothingPending, replaced};
 ghost use Rattle.trace_model.specs.Moments.{Grew, Leaves};
-ghost use Rattle.meter_board.specs.Causes.{Rose};
-ghost use Rattle.register_store.specs.declared.store_fault.StoreFault.TheVariants.{Formatted, Memory, Cut};
-ghost use Rattle.register_store.specs.Works.{WorksBy, IsFormatFault};
+ghost use Rattle.meter_board.specs.Causes.{CausedBy};
+ghost use Rattle.register_store.specs.declared.format_fault.FormatFault.TheVariants.{Formatted, Memory};
+ghost use Rattle.register_store.specs.Faults.{FormatCause};
+ghost use Rattle.register_store.specs.Works.{FormatWorks};
 ghost use Rattle.register_store.specs.Formatted.{HoldsInA, UnformattedOr, Spells};
 ghost use Rattle.state_codec.specs.Slot.{zeros};
 
-use crate::StoreFault;
+use crate::FormatFault;
 use crate::layout::MARK;
 use crate::settling::store_settled;
 use billing_memory::MeterRecord;
@@ -24,9 +25,9 @@ use state_codec::{encode_header, encode_record};
 /// the memory is unformatted until it holds them.
 ///
 /// # Errors
-/// [`StoreFault::Formatted`] where the first byte is the mark already; then nothing is stored.
-/// [`StoreFault::Memory`] where the memory failed, [`StoreFault::Cut`] where the power failed.
-pub fn format<B: Board>(board: &mut B, c: &Config, m: &MeterRecord) -> Result<(), StoreFault>
+/// [`FormatFault::Formatted`] where the first byte is the mark already; then nothing is stored.
+/// [`FormatFault::Memory`] where the memory failed, [`FormatFault::Cut`] where the power failed.
+pub fn format<B: Board>(board: &mut B, c: &Config, m: &MeterRecord) -> Result<(), FormatFault>
     requires { B.tells → NothingPending (B.trace board.old) }
     ensures formatted { B.tells → IsErrOf result Formatted → slice_index (B.reads board.old) 0 ≡ mark }
     ensures refused { B.tells → slice_index (B.reads board.old) 0 ≡ mark → IsErrOf result Formatted ⊎ IsErrOf result Memory }
@@ -34,18 +35,13 @@ pub fn format<B: Board>(board: &mut B, c: &Config, m: &MeterRecord) -> Result<()
     ensures moments { B.tells → Grew (Leaves (UnformattedOr (config_view c.now) (record_view m.now))) (B.trace board.old) (B.trace board.new) }
     ensures ok { B.tells → OnOk result (Leaves (HoldsInA (config_view c.now) (record_view m.now)) (B.trace board.new)) }
     ensures settled { B.tells → OnOk result (NothingPending (B.trace board.new)) }
-    ensures works { B.tells → WorksBy 2 result (B.trace board.old) (B.trace board.new) }
-    ensures kind { IfErr result IsFormatFault }
-    ensures memory { IsErrOf result Memory → Rose (B.memory_faults board.old) (B.memory_faults board.new) }
-    ensures cut { IsErrOf result Cut → Rose (B.cuts board.old) (B.cuts board.new) }
-    ensures memory_faults { B.memory_faults board.old ≤ B.memory_faults board.new }
-    ensures output_faults { B.output_faults board.old ≤ B.output_faults board.new }
-    ensures cuts { B.cuts board.old ≤ B.cuts board.new }
+    ensures works { B.tells → FormatWorks result (B.trace board.old) (B.trace board.new) }
+    ensures cause { CausedBy FormatCause (B.faults board.old) (B.faults board.new) result }
 {
     let mut first = [0; 1];
     board.load(0, &mut first)?;
     if first[0] == MARK {
-        return Err(StoreFault::Formatted);
+        return Err(FormatFault::Formatted);
     }
     let bytes = spelled(c, m);
     store_settled(board, 1, &bytes)?;

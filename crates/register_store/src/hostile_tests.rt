@@ -9,8 +9,7 @@ use billing_memory::{Day, Entry, MeterRecord};
 use energy_register::{PulsesFull, Step};
 use meter_board::{Board, SimBoard};
 use meter_config::Config;
-use pt_curve::Sensor;
-use sensor_pair::Place;
+use meter_parts::{Place, Sensor};
 use state_codec::encode_record;
 use std::alloc::Global;
 use std::process::Abort;
@@ -396,9 +395,9 @@ fn numbers_held(c: &Config, m: &MeterRecord, side: Side) -> Held {
 fn recovered(board: &mut SimBoard) -> Found {
     match recover(board) {
         Ok((c, m, side)) => Found::Holds(numbers_held(&c, &m, side)),
-        Err(StoreFault::Unformatted { byte }) => Found::Unformatted(u128::from(byte)),
-        Err(StoreFault::Foreign { at }) => Found::Foreign(u128::from(at)),
-        Err(_) => Found::Failed,
+        Err(Unreadable::Unformatted { byte }) => Found::Unformatted(u128::from(byte)),
+        Err(Unreadable::Foreign { at }) => Found::Foreign(u128::from(at)),
+        Err(Unreadable::Memory) => Found::Failed,
     }
 }
 

@@ -2,6 +2,7 @@
 #![tactic(auto)]
 
 mod committing;
+mod format_fault;
 mod formatting;
 #[cfg(test)]
 mod hostile_tests;
@@ -11,13 +12,14 @@ mod looking;
 mod recovery;
 mod settling;
 mod side;
-mod store_fault;
 #[cfg(test)]
 mod tests;
+mod unreadable;
 
 pub use committing::{commit, fill_slot, turn_gate};
+pub use format_fault::FormatFault;
 pub use formatting::format;
 pub use looking::{Slots, look};
 pub use recovery::recover;
 pub use side::Side;
-pub use store_fault::StoreFault;
+pub use unreadable::Unreadable;

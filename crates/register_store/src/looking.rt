@@ -1,14 +1,14 @@
 //! A look at both slots of a memory.
 
-ghost use Rattle.std.specs.Prelude.{◌≡◌, ◌≤◌, IfOk, IsErrOf};
+ghost use Rattle.std.specs.Prelude.{◌≡◌, IfOk};
 ghost use Rattle.memory_model.specs.Slots.{events_on};
-ghost use Rattle.meter_board.specs.Causes.{HasCause, Rose};
-ghost use Rattle.register_store.specs.declared.store_fault.StoreFault.TheVariants.{Formatted, Memory, Cut};
+ghost use Rattle.meter_board.specs.Causes.{CausedBy, MemoryCause};
+ghost use Rattle.register_store.specs.Faults.{UnreadableCause};
 ghost use Rattle.register_store.specs.Looks.{LookGives, slot_view};
 ghost use Rattle.register_store.specs.Recovered.{side_view};
 
 use crate::loading::{load_gate, load_header, load_slot};
-use crate::{Side, StoreFault};
+use crate::{Side, Unreadable};
 use meter_board::{Board, Failed};
 use state_codec::Foreign;
 
@@ -27,18 +27,13 @@ pub struct Slots {
 /// What stands in both slots of the memory, whichever holds the record in force. It loads alone.
 ///
 /// # Errors
-/// [`StoreFault::Unformatted`] where the first byte is not the mark. [`StoreFault::Foreign`] with the offset of the
-/// first field of the header that breaks its rule. [`StoreFault::Memory`] where the memory failed.
-pub fn look<B: Board>(board: &mut B) -> Result<Slots, StoreFault>
+/// [`Unreadable::Unformatted`] where the first byte is not the mark. [`Unreadable::Foreign`] with the offset of the
+/// first field of the header that breaks its rule. [`Unreadable::Memory`] where the memory failed.
+pub fn look<B: Board>(board: &mut B) -> Result<Slots, Unreadable>
     ensures gives { B.tells → LookGives result (B.reads board.old) }
     ensures trace { B.tells → B.trace board.new ≡ B.trace board.old }
     ensures reads { B.tells → B.reads board.new ≡ B.reads board.old }
-    ensures never_formatted { ¬ IsErrOf result Formatted }
-    ensures never_cut { ¬ IsErrOf result Cut }
-    ensures memory { IsErrOf result Memory → Rose (B.memory_faults board.old) (B.memory_faults board.new) }
-    ensures memory_faults { B.memory_faults board.old ≤ B.memory_faults board.new }
-    ensures output_faults { B.output_faults board.old ≤ B.output_faults board.new }
-    ensures cuts { B.cuts board.old ≤ B.cuts board.new }
+    ensures cause { CausedBy UnreadableCause (B.faults board.old) (B.faults board.new) result }
 {
     load_header(board)?;
     let gate = load_gate(board)?;
@@ -57,9 +52,7 @@ fn events_in<B: Board>(board: &mut B, side: Side) -> Result<Result<u64, Foreign>
     ensures gives { B.tells → IfOk result (λ read. events_on (side_view side) (B.reads board.old) ≡ slot_view read) }
     ensures trace { B.tells → B.trace board.new ≡ B.trace board.old }
     ensures reads { B.tells → B.reads board.new ≡ B.reads board.old }
-    ensures cause { HasCause (B.memory_faults board.old) (B.memory_faults board.new) result }
-    ensures output_faults { B.output_faults board.old ≤ B.output_faults board.new }
-    ensures cuts { B.cuts board.old ≤ B.cuts board.new }
+    ensures cause { CausedBy MemoryCause (B.faults board.old) (B.faults board.new) result }
 {
     match load_slot(board, side)? {
         Ok(record) => Ok(Ok(record.seq)),

@@ -1,6 +1,6 @@
 use crate::*;
 use billing_memory::{Day, MeterRecord};
-use meter_board::{Board, CallKind, SimBoard};
+use meter_board::{Board, CallKind, Refusal, SimBoard};
 use meter_config::Config;
 use std::alloc::Global;
 use std::test::Fail;
@@ -22,10 +22,10 @@ fn memory_of_zeros_is_formatted(rt: HostRuntime) -> Result<(), Fail> {
     let mut board = SimBoard::new(rt.alloc(), &[0; 16384], 4, 1_792)?;
     assert_eq!(rt;
         recover(&mut board),
-        Err(StoreFault::Unformatted { byte: 0 })
+        Err(Unreadable::Unformatted { byte: 0 })
     );
     format(&mut board, &c, &m)?;
-    assert_eq!(rt; format(&mut board, &c, &m), Err(StoreFault::Formatted));
+    assert_eq!(rt; format(&mut board, &c, &m), Err(FormatFault::Formatted));
     assert_eq!(rt; recover(&mut board), Ok((c, m, Side::A)));
     let image = board.image();
     assert_eq!(rt; image[..24], HEADER[..]);
@@ -39,7 +39,7 @@ fn memory_with_foreign_fields(rt: HostRuntime) -> Result<(), Fail> {
     let mut board = SimBoard::new(rt.alloc(), &[0; 16384], 5, 40)?;
     assert_eq!(rt; board.store(0, &HEADER), Ok(()));
     assert_eq!(rt; board.store(520, &[0xff, 0xff]), Ok(()));
-    assert_eq!(rt; recover(&mut board), Err(StoreFault::Foreign { at: 520 }));
+    assert_eq!(rt; recover(&mut board), Err(Unreadable::Foreign { at: 520 }));
     assert_eq!(rt; board.store(256, &[0xff]), Ok(()));
     assert_eq!(rt; board.store(2_056, &[0x4c, 0x22]), Ok(()));
     assert_eq!(rt;
@@ -47,7 +47,7 @@ fn memory_with_foreign_fields(rt: HostRuntime) -> Result<(), Fail> {
         Ok((Config::standard(), opening(), Side::B))
     );
     assert_eq!(rt; board.store(11, &[2]), Ok(()));
-    assert_eq!(rt; recover(&mut board), Err(StoreFault::Foreign { at: 11 }));
+    assert_eq!(rt; recover(&mut board), Err(Unreadable::Foreign { at: 11 }));
     Ok(())
 }
 
@@ -90,7 +90,7 @@ fn failing(
     alloc: Global,
     kind: CallKind,
     number: u32,
-) -> Result<(Result<Side, StoreFault>, MeterRecord, Side), Fail> {
+) -> Result<(Result<Side, Refusal>, MeterRecord, Side), Fail> {
     let mut board = SimBoard::new(alloc, &[0; 16384], 12, 6_000)?;
     board.fail_on(kind, number);
     format(&mut board, &Config::standard(), &opening())?;
@@ -101,7 +101,7 @@ fn failing(
 
 #[test]
 fn commit_fails_with_the_memory(rt: HostRuntime) -> Result<(), Fail> {
-    let refused = Err(StoreFault::Memory);
+    let refused = Err(Refusal::Failed);
     assert_eq!(rt;
         failing(rt.alloc(), CallKind::Sync, 3)?,
         (refused, opening(), Side::A)

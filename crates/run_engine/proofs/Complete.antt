@@ -2,7 +2,7 @@
 use Rattle.std.proofs.Common.{◌≡◌, inl, inr, refl}
 use Rattle.run_engine.specs.declared.Ended.{Ended}
 use Rattle.run_engine.specs.declared.Ended.TheVariants.{Done, Line, Memory, Read, Write, Unformatted, Foreign}
-use Rattle.run_engine.specs.Ran.{IsDoneOrRefused}
+use Rattle.run_engine.specs.Outcome.{IsDoneOrRefused}
 
 pub completes : (ended : Ended) → ¬ (ended ≡ Read) → ¬ (ended ≡ Write) → ¬ (ended ≡ Memory) → ((byte : _) → ¬ (ended ≡ Unformatted byte)) → ((at : _) → ¬ (ended ≡ Foreign at)) → IsDoneOrRefused ended
 completes Done no_read no_write no_memory formatted known = inl refl

@@ -2,8 +2,8 @@
 use Rattle.std.proofs.Common.{◌≡◌, Bool, true, false, cond, inl, inr, List, [], ◌∷◌, ◌++◌, append_assoc, ap, sym, subst, ◌∙◌}
 use Rattle.std.proofs.lemmas.List.{append-nil}
 use Rattle.metering_model.specs.Records.{MeterRecord}
-use Rattle.metering_model.specs.Integral.{AllFitClosely}
-use Rattle.metering_model.proofs.Joined.{fit-front}
+use Rattle.integral_model.specs.Integral.{AllFitClosely}
+use Rattle.integral_model.proofs.Joined.{fit-front}
 use Rattle.script_model.specs.Lines.{lines_of}
 use Rattle.trace_model.specs.Trace.{Trace, Start, ◌▷◌}
 use Rattle.trace_model.specs.Output.{OutputLine, bytes_put, is_output_line, output_lines, open_segment}
@@ -12,7 +12,7 @@ use Rattle.pairing_model.specs.Setup.{Setup, settings_in}
 use Rattle.pairing_model.specs.Journal.{Journal, at_start}
 use Rattle.pairing_model.specs.Pairing.{Pairs}
 use Rattle.pairing_model.proofs.Pairs.{pairs-front}
-use Rattle.run_engine.specs.Ran.{Metered}
+use Rattle.run_engine.specs.Outcome.{Metered}
 use Rattle.std.specs.Prelude.{ℕ}
 
 -- the output lines of the whole begin with those of a moment

@@ -7,7 +7,7 @@ use Rattle.calendar_model.specs.Entries.{latest}
 use Rattle.metering_model.specs.Settings.{Settings}
 use Rattle.metering_model.specs.Records.{StandsFor, record_after}
 use Rattle.metering_model.specs.Records as records
-use Rattle.config_model.specs.Configuration.{is_pulse}
+use Rattle.parts_model.specs.Ranges.{is_pulse}
 use Rattle.pairing_model.specs.Settings.{settings_for}
 use Rattle.billing_memory.specs.declared.meter_record.MeterRecord.{MeterRecord}
 use Rattle.billing_memory.specs.Entries.{entry_view}

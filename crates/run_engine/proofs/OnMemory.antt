@@ -6,7 +6,7 @@ use Rattle.std.proofs.lemmas.Bool.{both_ways}
 use Rattle.std.proofs.lemmas.List.Elements.{All-cons, All-head, All-tail}
 use Rattle.std.proofs.lemmas.List.Sums.{sum_by-append}
 use Rattle.metering_model.specs.Records.{MeterRecord, StandsFor}
-use Rattle.metering_model.specs.Integral.{AllFitClosely}
+use Rattle.integral_model.specs.Integral.{AllFitClosely}
 use Rattle.script_model.specs.Lines.{lines_of}
 use Rattle.trace_model.specs.Trace.{Entry, Store, Sync, Missed, Put, Arm, Cut, Trace, ◌▷◌}
 use Rattle.trace_model.specs.Output.{OutputLine, is_output_line, output_lines, open_segment}
@@ -14,7 +14,7 @@ use Rattle.trace_model.specs.Moments.{IsPrefix, Leaves}
 use Rattle.trace_model.proofs.Images.{one_image}
 use Rattle.trace_model.proofs.Moments.{Grew-prefix, Grew-weaker, IsPrefix-self}
 use Rattle.config_model.specs.Configuration.{Configuration}
-use Rattle.journal_model.specs.Faults.{Run}
+use Rattle.answer_model.specs.Faults.{Run}
 use Rattle.memory_model.specs.Stored.{Side, Holds}
 use Rattle.pairing_model.specs.Settings.{settings_for}
 use Rattle.pairing_model.specs.Setup.{on_memory}
@@ -27,11 +27,11 @@ use Rattle.register_store.specs.Commits.{EndsCut, HoldsEither, other}
 use Rattle.register_store.specs.Works.{is_store, is_sync, is_forced_cut, is_other}
 use Rattle.register_store.proofs.MemoryAlone.{MemoryAlone, FrontAlone, MemoryStretch, front_counts, memory_alone, no_line, with_entries}
 use Rattle.event_script.specs.Next.{IsFirst}
-use Rattle.run_engine.specs.Run.{IsSound}
-use Rattle.run_engine.specs.Going.{Between, Going}
+use Rattle.run_engine.specs.OutcomeOnMemory.{IsSound}
+use Rattle.run_engine.specs.Progress.{Point, ProgressOnMemory, Progress}
 use Rattle.run_engine.specs.Steps.{Commits}
-use Rattle.run_engine.specs.Takes.{TakesLine}
-use Rattle.run_engine.proofs.Runs.{Reached, line_at, next_fits, next_stands, taken_at}
+use Rattle.run_engine.specs.EventVerdict.{TakenLine}
+use Rattle.run_engine.proofs.Progress.{Reached, line_at, next_fits, next_stands, taken_at}
 
 -- ---- the entries of a stretch
 
@@ -102,97 +102,98 @@ module _ (c : Configuration) (o : MeterRecord) (script : List ℕ) where
           acknowledged = show_at_most (on_memory c) o 0 at_start (lines_of script) (output_lines p) j held.seq pairs (omega (arith, counted, longer)) small;
         }
 
-  -- where all that was kept is held
-  pub between_holds : (rest : List ℕ) (n : ℕ) (j : Journal) (r : MeterRecord) (side : Side) (reads : List ℕ) (t : Trace) → Between c o script rest n j r side reads t → Leaves (HoldsKept c o (lines_of script) t) t
-  between_holds rest n j r side reads t b image of = record {
-    journal = j;
-    pairs = b.going.pairs;
-    held = r;
+module _ {c : Configuration} {o : MeterRecord} {at : Point} {side : Side} {reads : List ℕ} (b : ProgressOnMemory c o at side reads) where
+  -- all that was kept is held
+  pub progress_held : Leaves (HoldsKept c o (lines_of at.script) at.trace) at.trace
+  progress_held image of = record {
+    journal = at.journal;
+    pairs = b.progress.pairs;
+    held = at.in_force;
     side = side;
-    holds = subst (commits.StandsFor (Holds c r side)) (one_image t reads image b.settled b.possible of) b.holds;
-    stands = b.going.in_force;
+    holds = subst (commits.StandsFor (Holds c at.in_force side)) (one_image at.trace reads image b.settled b.possible of) b.holds;
+    stands = b.progress.in_force;
   }
 
   -- ---- one event
 
-  module _ (rest : List ℕ) (n : ℕ) (j : Journal) (r : MeterRecord) (side : Side) (reads : List ℕ) (t : Trace) (b : Between c o script rest n j r side reads t) (line after : List ℕ) (first : IsFirst rest line after) (new : MeterRecord) (takes : TakesLine Run (settings_for c) n r line new)
-      (old_small : r.seq < 10 ^ 64) (small : new.seq < 10 ^ 64) where
-    abbrev pub g : Going (on_memory c) o script rest n j r t
-    g = b.going
+  module _ {line after : List ℕ} (first : IsFirst at.rest line after) {new : MeterRecord} (takes : TakenLine Run (settings_for c) at.answered at.in_force line new)
+      (old_small : at.in_force.seq < 10 ^ 64) (small : new.seq < 10 ^ 64) where
+    abbrev pub g : Progress (on_memory c) o at
+    g = b.progress
 
-    pub next_event : NextIsEvent (on_memory c) o (lines_of script) j.kept (length (output_lines t)) takes.event
+    pub next_event : NextIsEvent (on_memory c) o (lines_of at.script) at.journal.kept (length (output_lines at.trace)) takes.event
     next_event = record {
       line = line;
-      place = line_at (on_memory c) o script rest n j r t g line after first;
+      place = line_at g first;
       says = takes.says;
-      taken = taken_at (on_memory c) o script rest n j r t g line after first new takes;
+      taken = taken_at g first takes;
     }
 
-    stands_next : StandsForNext c o (lines_of script) j.kept (length (output_lines t)) new
+    stands_next : StandsForNext c o (lines_of at.script) at.journal.kept (length (output_lines at.trace)) new
     stands_next = record {
       event = takes.event;
       next = next_event;
       energy_mj = takes.takes.energy_mj;
       bound_mj = takes.takes.bound_mj;
-      fits = next_fits (on_memory c) o script rest n j r t g line after first new takes;
-      stands = next_stands (on_memory c) o script rest n j r t g line after first new takes;
+      fits = next_fits g first takes;
+      stands = next_stands g first takes;
     }
 
-    same_pairs : (p : Trace) → output_lines p ≡ output_lines t → Pairs (on_memory c) o 0 at_start (lines_of script) (output_lines p) j
-    same_pairs p same = subst (λ (outputs : List OutputLine). Pairs (on_memory c) o 0 at_start (lines_of script) outputs j) (sym same) g.pairs
+    same_pairs : (p : Trace) → output_lines p ≡ output_lines at.trace → Pairs (on_memory c) o 0 at_start (lines_of at.script) (output_lines p) at.journal
+    same_pairs p same = subst (λ (outputs : List OutputLine). Pairs (on_memory c) o 0 at_start (lines_of at.script) outputs at.journal) (sym same) g.pairs
 
-    pub new_right : (p : Trace) (image : List ℕ) → output_lines p ≡ output_lines t → commits.StandsFor (Holds c new (other side)) image → IsRight c o (lines_of script) p image
+    pub new_right : (p : Trace) (image : List ℕ) → output_lines p ≡ output_lines at.trace → commits.StandsFor (Holds c new (other side)) image → IsRight c o (lines_of at.script) p image
     new_right p image same holds =
-        next_right p image j new (other side) (same_pairs p same) g.fits small holds
-        (subst (λ (outputs : List OutputLine). StandsForNext c o (lines_of script) j.kept (length outputs) new) (sym same) stands_next)
+        next_right c o at.script p image at.journal new (other side) (same_pairs p same) g.fits small holds
+        (subst (λ (outputs : List OutputLine). StandsForNext c o (lines_of at.script) at.journal.kept (length outputs) new) (sym same) stands_next)
 
-    either_right : (p : Trace) (image : List ℕ) → output_lines p ≡ output_lines t → HoldsEither c side r new image → IsRight c o (lines_of script) p image
-    either_right p image same (inl holds) = kept_right p image j r side (same_pairs p same) g.fits old_small holds g.in_force
+    either_right : (p : Trace) (image : List ℕ) → output_lines p ≡ output_lines at.trace → HoldsEither c side at.in_force new image → IsRight c o (lines_of at.script) p image
+    either_right p image same (inl holds) = kept_right c o at.script p image at.journal at.in_force side (same_pairs p same) g.fits old_small holds g.in_force
     either_right p image same (inr holds) = new_right p image same holds
 
     -- ---- while the memory works
 
-    own_segment : (u : Trace) (es : List Entry) → MemoryAlone t u es → open_segment u ≡ es
+    own_segment : (u : Trace) (es : List Entry) → MemoryAlone at.trace u es → open_segment u ≡ es
     own_segment u es alone = alone.segment ∙ ap (λ (l : List Entry). l ++ es) g.nothing
 
-    sound_within : (cuts : ℕ) (u : Trace) (commit : Commits c side r new cuts t u) (es : List Entry) → MemoryAlone t u es → (p : Trace) → Leaves (HoldsEither c side r new) p → FrontAlone t es p → IsSound c o (lines_of script) p
+    sound_within : (cuts : ℕ) (u : Trace) (commit : Commits c side at.in_force new cuts at.trace u) (es : List Entry) → MemoryAlone at.trace u es → (p : Trace) → Leaves (HoldsEither c side at.in_force new) p → FrontAlone at.trace es p → IsSound c o (lines_of at.script) p
     sound_within cuts u commit es all p leaves front =
         let segment : open_segment p ≡ front.front = own_segment p front.front front.alone in
         record {
           right = λ image of. either_right p image front.alone.lines (leaves image of);
-          held_before = subst (HeldBefore c o (lines_of script)) (sym front.alone.grown) (held_before_with t front.front front.alone.memory (b.sound t (IsPrefix-self t)).held_before);
+          held_before = subst (HeldBefore c o (lines_of at.script)) (sym front.alone.grown) (held_before_with c o at.script at.trace front.front front.alone.memory (b.sound at.trace (IsPrefix-self at.trace)).held_before);
           frugal = record {
-            stores = omega (arith, ap (count_by is_store) segment, front.alone.counts is_store, front_counts t es p is_store front, all.counts is_store, commit.works.stores);
-            syncs = omega (arith, ap (count_by is_sync) segment, front.alone.counts is_sync, front_counts t es p is_sync front, all.counts is_sync, commit.works.syncs);
+            stores = omega (arith, ap (count_by is_store) segment, front.alone.counts is_store, front_counts at.trace es p is_store front, all.counts is_store, commit.works.stores);
+            syncs = omega (arith, ap (count_by is_sync) segment, front.alone.counts is_sync, front_counts at.trace es p is_sync front, all.counts is_sync, commit.works.syncs);
           };
         }
 
-    pub stretch : (cuts : ℕ) (u : Trace) → Commits c side r new cuts t u → MemoryStretch (Leaves (HoldsEither c side r new)) t u
+    pub stretch : (cuts : ℕ) (u : Trace) → Commits c side at.in_force new cuts at.trace u → MemoryStretch (Leaves (HoldsEither c side at.in_force new)) at.trace u
     stretch cuts u commit = memory_alone commit.moments commit.works.others
 
-    pub commit_sound : (cuts : ℕ) (u : Trace) → Commits c side r new cuts t u → (p : Trace) → IsPrefix p u → IsSound c o (lines_of script) p
+    pub commit_sound : (cuts : ℕ) (u : Trace) → Commits c side at.in_force new cuts at.trace u → (p : Trace) → IsPrefix p u → IsSound c o (lines_of at.script) p
     commit_sound cuts u commit =
         let s = stretch cuts u commit in
-        Grew-prefix b.sound (Grew-weaker (λ p at. sound_within cuts u commit s.entries s.alone p at.0 at.1) s.moments)
+        Grew-prefix b.sound (Grew-weaker (λ p here. sound_within cuts u commit s.entries s.alone p here.0 here.1) s.moments)
 
     -- what the memory did where it was not cut
-    pub reached : (u : Trace) (commit : Commits c side r new 0 t u) → Reached t u (stretch 0 u commit).entries
+    pub reached : (u : Trace) (commit : Commits c side at.in_force new 0 at.trace u) → Reached at.trace u (stretch 0 u commit).entries
     reached u commit = let s = stretch 0 u commit in record { outputs = s.alone.lines; segment = own_segment u s.entries s.alone }
 
-    pub uncut : (u : Trace) (commit : Commits c side r new 0 t u) → IsWork (stretch 0 u commit).entries
+    pub uncut : (u : Trace) (commit : Commits c side at.in_force new 0 at.trace u) → IsWork (stretch 0 u commit).entries
     uncut u commit =
         let s = stretch 0 u commit in
         work s.entries s.alone.memory (omega (arith, s.alone.counts is_forced_cut, commit.works.forced_cuts))
 
     -- and where it was
-    pub cut_reached : (u : Trace) (commit : Commits c side r new 1 t u) → Reached t u (stretch 1 u commit).entries
+    pub cut_reached : (u : Trace) (commit : Commits c side at.in_force new 1 at.trace u) → Reached at.trace u (stretch 1 u commit).entries
     cut_reached u commit = let s = stretch 1 u commit in record { outputs = s.alone.lines; segment = own_segment u s.entries s.alone }
 
-    pub cut_within : (u : Trace) (reads' : List ℕ) (commit : Commits c side r new 1 t u) → EndsCut (HoldsEither c side r new) u reads' → IsCutWork (stretch 1 u commit).entries
+    pub cut_within : (u : Trace) (reads' : List ℕ) (commit : Commits c side at.in_force new 1 at.trace u) → EndsCut (HoldsEither c side at.in_force new) u reads' → IsCutWork (stretch 1 u commit).entries
     cut_within u reads' commit ends =
         let s = stretch 1 u commit in
         let one : count_by is_forced_cut s.entries ≡ 1 = omega (arith, s.alone.counts is_forced_cut, commit.works.forced_cuts) in
-        by_last s.entries one s.alone.memory (last_of t ends.before s.entries (Cut true reads') (sym s.alone.grown ∙ ends.last))
+        by_last s.entries one s.alone.memory (last_of at.trace ends.before s.entries (Cut true reads') (sym s.alone.grown ∙ ends.last))
       where
         by_last : (es : List Entry) → count_by is_forced_cut es ≡ 1 → All (λ (e : Entry). is_other e ≡ false) es → (es ≡ []) ⊎ ((front : List Entry) × (es ≡ front ++ Cut true reads' ∷ [])) → IsCutWork es
         by_last es one own (inl none) = absurd (omega (arith, one, ap (count_by is_forced_cut) none))

@@ -1,5 +1,5 @@
 -- A run over a memory goes on behind a readout.
-use Rattle.std.proofs.Common.{◌≡◌, inl, inr, ℕ, ◌+◌, ◌^◌, ◌<◌, List, [], ◌∷◌, ◌++◌, Option, Some, None, Ok, Err, refl, sym, ap, ◌∙◌, subst}
+use Rattle.std.proofs.Common.{◌≡◌, inl, inr, ℕ, ◌^◌, ◌<◌, List, [], ◌∷◌, ◌++◌, Option, Some, None, Ok, Err, refl, sym, ap, ◌∙◌, subst}
 use Rattle.std.specs.Prelude.{option_map}
 use Rattle.metering_model.specs.Records.{MeterRecord}
 use Rattle.script_model.specs.Lines.{lines_of}
@@ -10,161 +10,155 @@ use Rattle.trace_model.specs.Output.{OutputLine}
 use Rattle.trace_model.proofs.Images.{one_image}
 use Rattle.config_model.specs.Configuration.{Configuration}
 use Rattle.memory_model.specs.Stored.{Side, Holds}
-use Rattle.journal_model.specs.Faults.{Run}
-use Rattle.journal_model.specs.Texts.{mbus_text, opt_text}
-use Rattle.journal_model.proofs.Texts.{one_line-mbus_text, one_line-opt_text}
+use Rattle.answer_model.specs.Faults.{Run}
+use Rattle.answer_model.specs.Texts.{mbus_text, opt_text}
+use Rattle.answer_model.proofs.Texts.{one_line-mbus_text, one_line-opt_text}
 use Rattle.optical_model.specs.Replies as optical
 use Rattle.frame_model.specs.Frames.{Frame, Spells, frame_bytes}
-use Rattle.slave_model.specs.Heard as slaves
 use Rattle.slave_model.specs.Replies.{reply_to}
 use Rattle.pairing_model.specs.Setup.{on_memory}
 use Rattle.pairing_model.specs.Journal.{Journal, at_start, in_force}
 use Rattle.pairing_model.specs.Pairing.{Pairs}
 use Rattle.recovery_model.specs.Shown.{number_shown}
 use Rattle.recovery_model.proofs.Shown.{number_shown-mbus_text, number_shown-opt_text}
+use Rattle.meter_board.specs.Puts.{PutsFront}
 use Rattle.mbus_records.specs.State.{IsAfter}
 use Rattle.mbus_records.specs.declared.slave.Slave.{Slave}
 use Rattle.register_store.specs.Commits as commits
-use Rattle.run_engine.specs.declared.Ended.{Ended}
-use Rattle.run_engine.specs.declared.Ended.TheVariants.{Done, Line, Memory, Read, Write, Unformatted, Foreign}
-use Rattle.run_engine.specs.Going.{Between}
-use Rattle.run_engine.specs.Run.{RanOnMemory}
-use Rattle.run_engine.specs.Shows.{RepliesOnBus, ShowGives, ShowsOnBus, ShowsReply}
+use Rattle.run_engine.specs.declared.Ended.TheVariants.{Write}
+use Rattle.run_engine.specs.Progress.{Point, ProgressOnMemory, next_point}
+use Rattle.run_engine.specs.OutcomeOnMemory.{OutcomeOnMemory}
+use Rattle.run_engine.specs.Shows.{RepliesOnBus, ShowsOnBus, ShowsReply}
 use Rattle.event_script.specs.Next.{IsFirst, SaysAt}
 use Rattle.event_script.proofs.Says.{decides}
-use Rattle.run_engine.proofs.Runs.{Answered, Reached, at_once}
+use Rattle.run_engine.proofs.Progress.{Answered, Reached, at_once}
 use Rattle.run_engine.proofs.OnMemory.{kept_right}
-use Rattle.run_engine.proofs.GoesOut.{IsHeldFor, between_next, put_failed}
+use Rattle.run_engine.proofs.GoesOut.{IsHeldFor, progress_next, put_failed}
 
-module _ (c : Configuration) (o : MeterRecord) (script rest : List ℕ) (n : ℕ) (j : Journal) (r : MeterRecord) (side : Side) (reads : List ℕ) (t : Trace) (b : Between c o script rest n j r side reads t) (line after : List ℕ) (first : IsFirst rest line after) (small : r.seq < 10 ^ 64) where
-  -- r is the record in force
-  is_in_force : r ≡ in_force (on_memory c) o j
-  is_in_force = b.going.in_force.is
+module _ {c : Configuration} {o : MeterRecord} {at : Point} {side : Side} {reads : List ℕ} (b : ProgressOnMemory c o at side reads) {line after : List ℕ} (first : IsFirst at.rest line after) (small : at.in_force.seq < 10 ^ 64) where
+  -- the journal decides the record in force
+  is_in_force : at.in_force ≡ in_force (on_memory c) o at.journal
+  is_in_force = b.progress.in_force.is
 
-  held_still : (text : List ℕ) → number_shown text ≡ Some r.seq → IsHeldFor c o script t t text r side
+  held_still : (text : List ℕ) → number_shown text ≡ Some at.in_force.seq → IsHeldFor c o at at.trace text at.in_force side
   held_still text shows = record {
     sound = b.sound;
     settled = b.settled;
-    holds = λ image of. subst (commits.StandsFor (Holds c r side)) (one_image t reads image b.settled b.possible of) b.holds;
-    right = λ p image same holds. kept_right c o script p image j r side (subst (λ (outputs : List OutputLine). Pairs (on_memory c) o 0 at_start (lines_of script) outputs j) (sym same) b.going.pairs) b.going.fits small holds b.going.in_force;
+    holds = λ image of. subst (commits.StandsFor (Holds c at.in_force side)) (one_image at.trace reads image b.settled b.possible of) b.holds;
+    right = λ p image same holds. kept_right c o at.script p image at.journal at.in_force side (subst (λ (outputs : List OutputLine). Pairs (on_memory c) o 0 at_start (lines_of at.script) outputs at.journal) (sym same) b.progress.pairs) b.progress.fits small holds b.progress.in_force;
     shows = inl shows;
     small = small;
   }
 
   -- a readout changes the journal alone, in what was heard
-  module _ (text : List ℕ) (later : Journal) (a : Answered (on_memory c) o n j line [] text later r) (shows : number_shown text ≡ Some r.seq) where
-    still : Reached t t []
-    still = at_once t b.going.nothing
+  module _ (text : List ℕ) (later : Journal) (a : Answered (on_memory c) o at line [] text later at.in_force) (shows : number_shown text ≡ Some at.in_force.seq) where
+    still : Reached at.trace at.trace []
+    still = at_once at.trace b.progress.nothing
 
-    pub shown_goes_on : (t' : Trace) (reads' : List ℕ) → t' ≡ t ▷ Put text → reads' ≡ reads → IsImage t' reads' → Between c o script after (n + 1) later r side reads' t'
+    pub shown_goes_on : (t' : Trace) (reads' : List ℕ) → t' ≡ at.trace ▷ Put text → reads' ≡ reads → IsImage t' reads' → ProgressOnMemory c o (next_point at after later at.in_force t') side reads'
     shown_goes_on t' reads' grown same of =
-        subst (Between c o script after (n + 1) later r side reads') (sym grown)
-        (between_next c o script rest n j r t b.going line after first t [] text later r a still side (held_still text shows) reads' (subst (commits.StandsFor (Holds c r side)) (sym same) b.holds) (subst (λ (u : Trace). IsImage u reads') grown of))
+        subst (λ (u : Trace). ProgressOnMemory c o (next_point at after later at.in_force u) side reads') (sym grown)
+        (progress_next b.progress first a still (held_still text shows) reads' (subst (commits.StandsFor (Holds c at.in_force side)) (sym same) b.holds) (subst (λ (u : Trace). IsImage u reads') grown of))
 
-    pub shown_ends : (T : Type 0) (t' : Trace) (ended : Ended) → ShowGives {T = T} t text (Err ended) t' → RanOnMemory c o script t' ended
-    shown_ends T t' Write gives = put_failed c o script rest n j r t b.going line after first t [] text later r a still side (held_still text shows) t' gives
-    shown_ends T t' Memory gives = absurd gives
-    shown_ends T t' Done gives = absurd gives
-    shown_ends T t' (Line m kind) gives = absurd gives
-    shown_ends T t' Read gives = absurd gives
-    shown_ends T t' (Unformatted byte) gives = absurd gives
-    shown_ends T t' (Foreign at) gives = absurd gives
+    pub shown_ends : (t' : Trace) → PutsFront at.trace text t' → OutcomeOnMemory c o at.script t' Write
+    shown_ends t' gives = put_failed b.progress first a still (held_still text shows) t' gives
 
   -- ---- a message at the optical head
 
-  module _ (message : List ℕ) (says : SaysAt n line (Opt message)) where
+  module _ (message : List ℕ) (says : SaysAt at.answered line (Opt message)) where
     abbrev pub head_journal : Journal
-    head_journal = record j { last_message = Some message }
+    head_journal = record at.journal { last_message = Some message }
 
-    message_answered : (reply : Option (List ℕ)) → optical.Replies c r j.last_message message reply → Answered (on_memory c) o n j line [] (opt_text r reply) head_journal r
+    message_answered : (reply : Option (List ℕ)) → optical.Replies c at.in_force at.journal.last_message message reply → Answered (on_memory c) o at line [] (opt_text at.in_force reply) head_journal at.in_force
     message_answered reply replies = record {
       answer = record {
-        taken = decides says Run (in_force (on_memory c) o j);
+        taken = decides says Run (in_force (on_memory c) o at.journal);
         said = Opt message;
         says = says.says;
         reply = record {
           reply = reply;
-          replies = subst (λ (m : MeterRecord). optical.Replies c m j.last_message message reply) is_in_force replies;
+          replies = subst (λ (m : MeterRecord). optical.Replies c m at.journal.last_message message reply) is_in_force replies;
           hears = refl;
           shows = ap (λ (m : MeterRecord). opt_text m reply) is_in_force;
           still = refl;
         };
       };
-      fits = b.going.fits;
-      in_force = b.going.in_force;
-      one_line = one_line-opt_text r reply small;
+      fits = b.progress.fits;
+      in_force = b.progress.in_force;
+      one_line = one_line-opt_text at.in_force reply small;
     }
 
-    pub message_goes_on : {T : Type 0} (u : T) (t' : Trace) (reads' : List ℕ) → ShowsReply c r j.last_message message t (Ok u) t' → reads' ≡ reads → IsImage t' reads' → Between c o script after (n + 1) head_journal r side reads' t'
-    message_goes_on u t' reads' s same of = shown_goes_on (opt_text r s.reply) head_journal (message_answered s.reply s.replies) (number_shown-opt_text r s.reply small) t' reads' s.shown same of
+    pub message_goes_on : {T E : Type 0} (u : T) (t' : Trace) (reads' : List ℕ) → ShowsReply c at.in_force at.journal.last_message message {E = E} at.trace (Ok u) t' → reads' ≡ reads → IsImage t' reads' → ProgressOnMemory c o (next_point at after head_journal at.in_force t') side reads'
+    message_goes_on u t' reads' s same of = shown_goes_on (opt_text at.in_force s.reply) head_journal (message_answered s.reply s.replies) (number_shown-opt_text at.in_force s.reply small) t' reads' s.shown same of
 
-    pub message_ends : {T : Type 0} (t' : Trace) (ended : Ended) → ShowsReply c r j.last_message message {T = T} t (Err ended) t' → RanOnMemory c o script t' ended
-    message_ends {T} t' ended s = shown_ends (opt_text r s.reply) head_journal (message_answered s.reply s.replies) (number_shown-opt_text r s.reply small) T t' ended s.shown
+    pub message_ends : {T E : Type 0} (t' : Trace) (e : E) → ShowsReply c at.in_force at.journal.last_message message {T = T} at.trace (Err e) t' → OutcomeOnMemory c o at.script t' Write
+    message_ends t' e s = shown_ends (opt_text at.in_force s.reply) head_journal (message_answered s.reply s.replies) (number_shown-opt_text at.in_force s.reply small) t' s.shown
 
   -- ---- bytes on the bus
 
-  module _ (bytes : List ℕ) (says : SaysAt n line (Mbus bytes)) where
-    heard_r : Frame → slaves.Heard
-    heard_r frame = record { frame = frame; in_force = r }
+  module _ (bytes : List ℕ) (says : SaysAt at.answered line (Mbus bytes)) where
+    -- the journal with this frame, which is heard while this record is in force
+    abbrev with_frame : Frame → MeterRecord → Journal
+    with_frame frame m = record at.journal { frames = at.journal.frames ++ record { frame = frame; in_force = m } ∷ [] }
 
-    frame_answered : (frame : Frame) (reply : Option (List ℕ)) → Spells frame bytes → reply ≡ option_map frame_bytes (reply_to c j.frames (record { frame = frame; in_force = r }))
-        → Answered (on_memory c) o n j line [] (mbus_text r reply) (record j { frames = j.frames ++ record { frame = frame; in_force = r } ∷ [] }) r
+    frame_answered : (frame : Frame) (reply : Option (List ℕ)) → Spells frame bytes → reply ≡ option_map frame_bytes (reply_to c at.journal.frames (record { frame = frame; in_force = at.in_force }))
+        → Answered (on_memory c) o at line [] (mbus_text at.in_force reply) (with_frame frame at.in_force) at.in_force
     frame_answered frame reply spells is = record {
       answer = record {
-        taken = decides says Run (in_force (on_memory c) o j);
+        taken = decides says Run (in_force (on_memory c) o at.journal);
         said = Mbus bytes;
         says = says.says;
         reply = inl (record {
           frame = frame;
           spells = spells;
-          hears = ap (λ (m : MeterRecord). record j { frames = j.frames ++ record { frame = frame; in_force = m } ∷ [] }) is_in_force;
-          shows = ap (mbus_text r) is ∙ ap (λ (m : MeterRecord). mbus_text m (option_map frame_bytes (reply_to c j.frames (record { frame = frame; in_force = m })))) is_in_force;
+          hears = ap (λ (m : MeterRecord). with_frame frame m) is_in_force;
+          shows = ap (mbus_text at.in_force) is ∙ ap (λ (m : MeterRecord). mbus_text m (option_map frame_bytes (reply_to c at.journal.frames (record { frame = frame; in_force = m })))) is_in_force;
           still = refl;
         });
       };
-      fits = b.going.fits;
-      in_force = b.going.in_force;
-      one_line = one_line-mbus_text r reply small;
+      fits = b.progress.fits;
+      in_force = b.progress.in_force;
+      one_line = one_line-mbus_text at.in_force reply small;
     }
 
-    ignored : (reply : Option (List ℕ)) → ((frame : Frame) → ¬ (Spells frame bytes)) → reply ≡ None → Answered (on_memory c) o n j line [] (mbus_text r reply) j r
+    ignored : (reply : Option (List ℕ)) → ((frame : Frame) → ¬ (Spells frame bytes)) → reply ≡ None → Answered (on_memory c) o at line [] (mbus_text at.in_force reply) at.journal at.in_force
     ignored reply no_frame is = record {
       answer = record {
-        taken = decides says Run (in_force (on_memory c) o j);
+        taken = decides says Run (in_force (on_memory c) o at.journal);
         said = Mbus bytes;
         says = says.says;
-        reply = inr (record { no_frame = no_frame; hears = refl; shows = ap (mbus_text r) is ∙ ap (λ (m : MeterRecord). mbus_text m None) is_in_force; still = refl });
+        reply = inr (record { no_frame = no_frame; hears = refl; shows = ap (mbus_text at.in_force) is ∙ ap (λ (m : MeterRecord). mbus_text m None) is_in_force; still = refl });
       };
-      fits = b.going.fits;
-      in_force = b.going.in_force;
-      one_line = one_line-mbus_text r reply small;
+      fits = b.progress.fits;
+      in_force = b.progress.in_force;
+      one_line = one_line-mbus_text at.in_force reply small;
     }
 
     -- the run goes on, and the slave has heard what the journal then tells
     pub record BusGoesOn (new : Slave) (reads' : List ℕ) (t' : Trace) : Type 0 where
       pub journal : Journal
-      pub between : Between c o script after (n + 1) journal r side reads' t'
-      pub head : journal.last_message ≡ j.last_message
+      pub progress : ProgressOnMemory c o (next_point at after journal at.in_force t') side reads'
+      pub head : journal.last_message ≡ at.journal.last_message
       pub bus : IsAfter c journal.frames new
 
-    pub bytes_go_on : {T : Type 0} (u : T) (new : Slave) (t' : Trace) (reads' : List ℕ) → ShowsOnBus c r j.frames bytes new t (Ok u) t' → reads' ≡ reads → IsImage t' reads' → BusGoesOn new reads' t'
+    pub bytes_go_on : {T E : Type 0} (u : T) (new : Slave) (t' : Trace) (reads' : List ℕ) → ShowsOnBus c at.in_force at.journal.frames bytes new {E = E} at.trace (Ok u) t' → reads' ≡ reads → IsImage t' reads' → BusGoesOn new reads' t'
     bytes_go_on u new t' reads' s same of = by_cases s.replies where
-      by_cases : RepliesOnBus c r j.frames bytes s.reply new → BusGoesOn new reads' t'
+      by_cases : RepliesOnBus c at.in_force at.journal.frames bytes s.reply new → BusGoesOn new reads' t'
       by_cases (inl f) = record {
-        journal = record j { frames = j.frames ++ record { frame = f.frame; in_force = r } ∷ [] };
-        between = shown_goes_on (mbus_text r s.reply) (record j { frames = j.frames ++ record { frame = f.frame; in_force = r } ∷ [] }) (frame_answered f.frame s.reply f.spells f.reply_is) (number_shown-mbus_text r s.reply small) t' reads' s.shown same of;
+        journal = with_frame f.frame at.in_force;
+        progress = shown_goes_on (mbus_text at.in_force s.reply) (with_frame f.frame at.in_force) (frame_answered f.frame s.reply f.spells f.reply_is) (number_shown-mbus_text at.in_force s.reply small) t' reads' s.shown same of;
         head = refl;
         bus = f.after;
       }
       by_cases (inr i) = record {
-        journal = j;
-        between = shown_goes_on (mbus_text r s.reply) j (ignored s.reply i.no_frame i.reply_is) (number_shown-mbus_text r s.reply small) t' reads' s.shown same of;
+        journal = at.journal;
+        progress = shown_goes_on (mbus_text at.in_force s.reply) at.journal (ignored s.reply i.no_frame i.reply_is) (number_shown-mbus_text at.in_force s.reply small) t' reads' s.shown same of;
         head = refl;
         bus = i.after;
       }
 
-    pub bytes_end : {T : Type 0} (new : Slave) (t' : Trace) (ended : Ended) → ShowsOnBus c r j.frames bytes new {T = T} t (Err ended) t' → RanOnMemory c o script t' ended
-    bytes_end {T} new t' ended s = by_cases s.replies where
-      by_cases : RepliesOnBus c r j.frames bytes s.reply new → RanOnMemory c o script t' ended
-      by_cases (inl f) = shown_ends (mbus_text r s.reply) (record j { frames = j.frames ++ record { frame = f.frame; in_force = r } ∷ [] }) (frame_answered f.frame s.reply f.spells f.reply_is) (number_shown-mbus_text r s.reply small) T t' ended s.shown
-      by_cases (inr i) = shown_ends (mbus_text r s.reply) j (ignored s.reply i.no_frame i.reply_is) (number_shown-mbus_text r s.reply small) T t' ended s.shown
+    pub bytes_end : {T E : Type 0} (new : Slave) (t' : Trace) (e : E) → ShowsOnBus c at.in_force at.journal.frames bytes new {T = T} at.trace (Err e) t' → OutcomeOnMemory c o at.script t' Write
+    bytes_end new t' e s = by_cases s.replies where
+      by_cases : RepliesOnBus c at.in_force at.journal.frames bytes s.reply new → OutcomeOnMemory c o at.script t' Write
+      by_cases (inl f) = shown_ends (mbus_text at.in_force s.reply) (with_frame f.frame at.in_force) (frame_answered f.frame s.reply f.spells f.reply_is) (number_shown-mbus_text at.in_force s.reply small) t' s.shown
+      by_cases (inr i) = shown_ends (mbus_text at.in_force s.reply) at.journal (ignored s.reply i.no_frame i.reply_is) (number_shown-mbus_text at.in_force s.reply small) t' s.shown

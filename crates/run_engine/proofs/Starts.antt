@@ -16,19 +16,19 @@ use Rattle.register_store.specs.declared.side.Side.{Side}
 use Rattle.register_store.specs.Commits.{StandsOn}
 use Rattle.register_store.specs.Recovered.{side_view}
 use Rattle.run_engine.specs.declared.station.Station.{Station}
-use Rattle.run_engine.specs.Going.{Between, IsReady}
+use Rattle.run_engine.specs.Progress.{ProgressOnMemory, Readiness, first_point}
 use Rattle.run_engine.proofs.Nothing.{few_months}
-use Rattle.run_engine.proofs.RunsOnMemory.{started}
+use Rattle.run_engine.proofs.ProgressOnMemory.{started}
 
 module _ (config : Config) (opening : MeterRecord) (side : Side) (meter : Meter) (station : Station) (reads : List ℕ) (t : Trace)
     (is_config : meter.config ≡ config) (is_opening : meter.record ≡ opening) (is_meter : station.meter ≡ meter) (is_side : station.side ≡ side)
     (fresh : IsFresh t) (holds : stored reads ≡ Holds (config_view config) (record_view opening) (side_view side)) where
-  pub station_ready : (script : List ℕ) → ((c : Configuration) → Heard c None station.optical) → ((c : Configuration) → IsAfter c [] station.slave) → IsImage t reads → IsReady (config_view config) (record_view opening) script script 0 station reads t
+  pub station_ready : (script : List ℕ) → ((c : Configuration) → Heard c None station.optical) → ((c : Configuration) → IsAfter c [] station.slave) → IsImage t reads → Readiness (config_view config) (record_view opening) script script 0 station reads t
   station_ready script head bus possible = record {
     config = sym (ap (λ (m : Meter). config_view m.config) is_meter ∙ ap config_view is_config);
     journal = at_start;
-    between = subst (λ m. Between (config_view config) (record_view opening) script script 0 at_start (record_view m) (side_view station.side) reads t) (sym (ap (λ (m : Meter). m.record) is_meter ∙ is_opening))
-        (subst (λ s. Between (config_view config) (record_view opening) script script 0 at_start (record_view opening) (side_view s) reads t) (sym is_side)
+    progress = subst (λ m. ProgressOnMemory (config_view config) (record_view opening) (first_point script (record_view m) t) (side_view station.side) reads) (sym (ap (λ (m : Meter). m.record) is_meter ∙ is_opening))
+        (subst (λ s. ProgressOnMemory (config_view config) (record_view opening) (first_point script (record_view opening) t) (side_view s) reads) (sym is_side)
         (started (config_view config) (record_view opening) script t reads (side_view side) fresh possible holds (few_months opening) (omega (arith, opening.seq_in_range))));
     head = head (config_view config);
     bus = bus (config_view config);

@@ -1,8 +1,9 @@
-pub mod Takes
-pub mod Ran
+pub mod EventVerdict
+pub mod Outcome
 pub mod Dry
+pub mod Stops
 pub mod Steps
-pub mod Run
+pub mod OutcomeOnMemory
 pub mod Shows
-pub mod Going
+pub mod Progress
 pub mod Reads

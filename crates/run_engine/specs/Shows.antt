@@ -1,35 +1,22 @@
 -- What a readout shows.
-use Rattle.std.specs.Prelude.{◌≡◌, ◌⊎◌, ℕ, List, [], ◌∷◌, ◌++◌, Option, None, Result, Ok, Err, option_map}
+use Rattle.std.specs.Prelude.{◌≡◌, ◌⊎◌, ℕ, List, [], ◌∷◌, ◌++◌, Option, None, Result, option_map}
 use Rattle.metering_model.specs.Records.{MeterRecord}
-use Rattle.trace_model.specs.Trace.{Put, Trace, ◌▷◌}
+use Rattle.trace_model.specs.Trace.{Trace}
 use Rattle.config_model.specs.Configuration.{Configuration}
-use Rattle.journal_model.specs.Texts.{mbus_text, opt_text}
+use Rattle.answer_model.specs.Texts.{mbus_text, opt_text}
 use Rattle.optical_model.specs.Replies.{Replies}
 use Rattle.frame_model.specs.Frames.{Frame, Spells, frame_bytes}
 use Rattle.slave_model.specs.Heard.{Heard}
 use Rattle.slave_model.specs.Replies.{reply_to}
-use Rattle.meter_board.specs.Puts.{PutsFront}
+use Rattle.meter_board.specs.Puts.{PutGives}
 use Rattle.mbus_records.specs.State.{IsAfter}
 use Rattle.mbus_records.specs.declared.slave.Slave.{Slave}
-use Rattle.run_engine.specs.declared.Ended.{Ended}
-use Rattle.run_engine.specs.declared.Ended.TheVariants.{Done, Line, Memory, Read, Write, Unformatted, Foreign}
-
--- the text went out; where the output failed, a front of it, or nothing
-abbrev pub ShowGives : {T : Type 0} → Trace → List ℕ → Result T Ended → Trace → Type 0
-ShowGives t text (Ok u) t' = t' ≡ t ▷ Put text
-ShowGives t text (Err Write) t' = PutsFront t text t'
-ShowGives t text (Err Memory) t' = ⊥
-ShowGives t text (Err Done) t' = ⊥
-ShowGives t text (Err (Line n kind)) t' = ⊥
-ShowGives t text (Err Read) t' = ⊥
-ShowGives t text (Err (Unformatted byte)) t' = ⊥
-ShowGives t text (Err (Foreign at)) t' = ⊥
 
 -- the reply to a message is shown, where this was the last one before it
-pub record ShowsReply (c : Configuration) (r : MeterRecord) (last : Option (List ℕ)) (message : List ℕ) {T : Type 0} (t : Trace) (result : Result T Ended) (t' : Trace) : Type 0 where
+pub record ShowsReply (c : Configuration) (r : MeterRecord) (last : Option (List ℕ)) (message : List ℕ) {T E : Type 0} (t : Trace) (result : Result T E) (t' : Trace) : Type 0 where
   pub reply : Option (List ℕ)
   pub replies : Replies c r last message reply
-  pub shown : ShowGives t (opt_text r reply) result t'
+  pub shown : PutGives t (opt_text r reply) result t'
 
 -- the bytes spell this frame, which the slave now has heard, and this is the reply
 pub record RepliesToFrame (c : Configuration) (r : MeterRecord) (heard : List Heard) (bytes : List ℕ) (reply : Option (List ℕ)) (new : Slave) : Type 0 where
@@ -48,7 +35,7 @@ abbrev pub RepliesOnBus : Configuration → MeterRecord → List Heard → List 
 RepliesOnBus c r heard bytes reply new = RepliesToFrame c r heard bytes reply new ⊎ IgnoresBytes c heard bytes reply new
 
 -- and the reply is shown
-pub record ShowsOnBus (c : Configuration) (r : MeterRecord) (heard : List Heard) (bytes : List ℕ) (new : Slave) {T : Type 0} (t : Trace) (result : Result T Ended) (t' : Trace) : Type 0 where
+pub record ShowsOnBus (c : Configuration) (r : MeterRecord) (heard : List Heard) (bytes : List ℕ) (new : Slave) {T E : Type 0} (t : Trace) (result : Result T E) (t' : Trace) : Type 0 where
   pub reply : Option (List ℕ)
   pub replies : RepliesOnBus c r heard bytes reply new
-  pub shown : ShowGives t (mbus_text r reply) result t'
+  pub shown : PutGives t (mbus_text r reply) result t'

@@ -1,12 +1,14 @@
 //! The loop over the lines of a script.
-ghost use Rattle.std.specs.Prelude.{◌≡◌, ℕ, ◌+◌, ◌<◌, ◌≤◌, [], List, OnOk, IfErr, IsErrOf, MatchResult};
+ghost use Rattle.std.specs.Prelude.{◌≡◌, ℕ, ◌+◌, [], List, OnOk, IfErr, MatchResult};
 ghost use Rattle.event_script.specs.Next.{IsFirst, SaysAt};
 ghost use Rattle.event_script.specs.declared.LineFault.{LineFault};
 ghost use Rattle.event_script.specs.Views.{IsInRange, line_view};
-ghost use Rattle.meter_board.specs.Causes.{Rose};
-ghost use Rattle.run_engine.specs.Reads.{EndsAnswering, IsOver};
+ghost use Rattle.meter_board.specs.Causes.{CausedBy, Rose};
+ghost use Rattle.run_engine.specs.Reads.{IsOver};
+ghost use Rattle.run_engine.specs.Stops.{StopCause, ended_by};
 
 use crate::Ended;
+use crate::stop::Stop;
 use event_script::{Line, Lines, Next};
 use meter_board::{Board, Source};
 
@@ -22,7 +24,7 @@ pub(crate) trait Answerer<B: Board> {
     ghost IsSettled: { Self → B → Type 0 };
 
     /// So many lines of the script have their answers, and these bytes are left of it.
-    ghost IsReady: { Self → B → Opening → (script rest : List ℕ) → ℕ → Type 0 };
+    ghost Readiness: { Self → B → Opening → (script rest : List ℕ) → ℕ → Type 0 };
 
     /// What a run over the script leaves on the board.
     ghost Leaves: { B → Opening → (script : List ℕ) → Ended → Type 0 };
@@ -33,27 +35,16 @@ pub(crate) trait Answerer<B: Board> {
     /// How the board goes on while lines are answered.
     ghost GoesOn: { B → B → Type 0 };
 
-    /// Answers the line after `taken` lines, which says this. The message is that of an `opt` or `mbus` line.
-    fn answer(
-        &mut self,
-        said: &Line,
-        message: &[u8],
-        taken: u32,
-        board: &mut B,
-    ) -> Result<(), Ended>
+    /// Answers a line that says this. The message is that of an `opt` or `mbus` line.
+    fn answer(&mut self, said: &Line, message: &[u8], board: &mut B) -> Result<(), Stop>
         requires range { IsInRange said.now }
-        requires few { taken < 1000000 }
         requires settled { IsSettled self.old board.old }
-        ensures leads { B.tells → (opening : Opening) → (script rest line after : List ℕ) → IsReady self.old board.old opening script rest taken → IsFirst rest line after → SaysAt taken line (line_view said.now message.now)
-            → MatchResult result (λ _. IsReady self.new board.new opening script after (taken + 1)) (λ ended. Leaves board.new opening script ended) }
+        ensures leads { B.tells → (opening : Opening) → (script rest line after : List ℕ) (taken : ℕ) → Readiness self.old board.old opening script rest taken → IsFirst rest line after → SaysAt taken line (line_view said.now message.now)
+            → MatchResult result (λ _. Readiness self.new board.new opening script after (taken + 1)) (λ stop. Leaves board.new opening script (ended_by (taken + 1) stop)) }
         ensures settled { OnOk result (IsSettled self.new board.new) }
         ensures goes_on { GoesOn board.old board.new }
-        ensures may_end { IfErr result MayEnd }
-        ensures kind { IfErr result EndsAnswering }
-        ensures memory { IsErrOf result Ended.Memory → Rose (B.memory_faults board.old) (B.memory_faults board.new) }
-        ensures write { IsErrOf result Ended.Write → Rose (B.output_faults board.old) (B.output_faults board.new) }
-        ensures memory_faults { B.memory_faults board.old ≤ B.memory_faults board.new }
-        ensures output_faults { B.output_faults board.old ≤ B.output_faults board.new };
+        ensures may_end { IfErr result (λ stop. (n : ℕ) → MayEnd (ended_by n stop)) }
+        ensures cause { CausedBy StopCause (B.faults board.old) (B.faults board.new) result };
 
     /// However reading ends, a run may end so.
     ghost may_end_reading: { MayEnd Done × ((n : ℕ) (kind : LineFault) → MayEnd (Line n kind)) × MayEnd Read };
@@ -70,14 +61,14 @@ pub(crate) fn answer_lines<S: Source, B: Board, A: Answerer<B>>(
     board: &mut B,
 ) -> Ended
     requires settled { A.IsSettled answerer.old board.old }
-    ensures over { S.tells → B.tells → (opening : A.Opening) → A.IsReady answerer.old board.old opening (S.left source.old) (S.left source.old) 0
-        → IsOver (A.IsReady answerer.new board.new opening (S.left source.old)) (A.Leaves board.new opening (S.left source.old) result) (S.left source.new) result }
+    ensures over { S.tells → B.tells → (opening : A.Opening) → A.Readiness answerer.old board.old opening (S.left source.old) (S.left source.old) 0
+        → IsOver (A.Readiness answerer.new board.new opening (S.left source.old)) (A.Leaves board.new opening (S.left source.old) result) (S.left source.new) result }
     ensures goes_on { A.GoesOn board.old board.new }
     ensures may_end { A.MayEnd result }
     ensures end { S.tells → result ≡ Ended.Done → S.left source.new ≡ [] }
-    ensures memory { result ≡ Ended.Memory → Rose (B.memory_faults board.old) (B.memory_faults board.new) }
+    ensures memory { result ≡ Ended.Memory → Rose (B.faults board.old).memory (B.faults board.new).memory }
     ensures read { result ≡ Ended.Read → Rose (S.faults source.old) (S.faults source.new) }
-    ensures write { result ≡ Ended.Write → Rose (B.output_faults board.old) (B.output_faults board.new) }
+    ensures write { result ≡ Ended.Write → Rose (B.faults board.old).output (B.faults board.new).output }
 {
     let mut lines = Lines::new();
     loop {
@@ -88,9 +79,9 @@ pub(crate) fn answer_lines<S: Source, B: Board, A: Answerer<B>>(
             Next::End => return Ended::Done,
             Next::ReadFault => return Ended::Read,
         };
-        match answerer.answer(&said, lines.message(), taken, board) {
+        match answerer.answer(&said, lines.message(), board) {
             Ok(()) => {}
-            Err(ended) => return ended,
+            Err(stop) => return stop.ended(taken + 1),
         }
     }
 }

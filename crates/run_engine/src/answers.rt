@@ -1,25 +1,26 @@
 //! The answers to lines: what the memory then holds, and what goes out.
-ghost use Rattle.std.specs.Prelude.{◌≡◌, ◌⊎◌, ◌≤◌, ◌<◌, ℕ, List, Option, Some, IfErr, IfOk, IsErrOf, OnOk, length};
+ghost use Rattle.std.specs.Prelude.{◌≡◌, ◌≤◌, ◌<◌, ℕ, List, Option, Some, IfOk, IsErrOf, length};
 ghost use Rattle.std.specs.Option.{option_map};
-ghost use Rattle.trace_model.specs.Trace.{base_of};
 ghost use Rattle.trace_model.specs.Images.{NothingPending};
 ghost use Rattle.config_model.specs.Configuration.{Configuration};
 ghost use Rattle.metering_model.specs.Records as metering;
 ghost use Rattle.memory_model.specs.Stored.{Holds};
-ghost use Rattle.journal_model.specs.Texts.{ok_text, power_text};
+ghost use Rattle.answer_model.specs.Texts.{ok_text, power_text};
 ghost use Rattle.slave_model.specs.Heard as slaves;
 ghost use Rattle.billing_memory.specs.Records.{record_view};
 ghost use Rattle.meter_config.specs.Views.{config_view, settings_of};
-ghost use Rattle.meter_board.specs.Causes.{Rose};
+ghost use Rattle.meter_board.specs.Causes.{CausedBy, OutputCause, RefusalCause};
+ghost use Rattle.meter_board.specs.Puts.{PutGives};
 ghost use Rattle.meter_board.specs.declared.refusal.Refusal.TheVariants as refusals;
 ghost use Rattle.optical_readout.specs.Heard.{Heard};
 ghost use Rattle.mbus_records.specs.State.{IsAfter};
 ghost use Rattle.register_store.specs.Commits.{StandsFor, StandsOn};
 ghost use Rattle.register_store.specs.Recovered.{side_view};
-ghost use Rattle.run_engine.specs.Shows.{RepliesOnBus, ShowGives, ShowsOnBus, ShowsReply};
-ghost use Rattle.run_engine.specs.Steps.{CountsCuts, HoldGives, OrderGives};
+ghost use Rattle.run_engine.specs.Shows.{RepliesOnBus, ShowsOnBus, ShowsReply};
+ghost use Rattle.run_engine.specs.Steps.{GoesOn, HoldGives, OrderGives};
+ghost use Rattle.run_engine.specs.Stops.{OrderCause};
 
-use crate::Ended;
+use crate::stop::OrderFault;
 use crate::text::{ok_line, power_line, readout_line};
 use arrayvec::ArrayVec;
 use line_text::LineText;
@@ -28,7 +29,7 @@ use mbus_records::Slave;
 use meter_board::{Board, Failed, Refusal};
 use meter_core::Meter;
 use optical_readout::Optical;
-use register_store::{Side, StoreFault, commit};
+use register_store::{Side, commit};
 
 /// Lets the memory hold the meter's record in the place of the one that it holds on this side. Answers the side that
 /// holds it.
@@ -40,35 +41,20 @@ pub(crate) fn hold<B: Board>(meter: &Meter, side: Side, board: &mut B) -> Result
     requires stands { B.tells → StandsOn (side_view side) (B.reads board.old) }
     ensures holds { B.tells → (c : Configuration) (r : metering.MeterRecord) → StandsFor (Holds c r (side_view side)) (B.reads board.old)
         → HoldGives c (side_view side) r (record_view meter.now.record) (B.trace board.old) result (B.trace board.new) (B.reads board.new) }
-    ensures settled { B.tells → OnOk result (NothingPending (B.trace board.new)) }
+    ensures goes_on { B.tells → GoesOn result (B.trace board.old) (B.trace board.new) (B.faults board.old) (B.faults board.new) }
     ensures cut_settled { B.tells → IsErrOf result refusals.Cut → NothingPending (B.trace board.new) }
     ensures stands { B.tells → IfOk result (λ turned. StandsOn (side_view turned) (B.reads board.new)) }
-    ensures base { B.tells → base_of (B.trace board.new) ≡ base_of (B.trace board.old) }
-    ensures memory { IsErrOf result refusals.Failed → Rose (B.memory_faults board.old) (B.memory_faults board.new) }
-    ensures counted { B.tells → CountsCuts (B.trace board.old) (B.trace board.new) (B.cuts board.old) (B.cuts board.new) }
-    ensures memory_faults { B.memory_faults board.old ≤ B.memory_faults board.new }
-    ensures output_faults { B.output_faults board.old ≤ B.output_faults board.new }
-    ensures cuts { B.cuts board.old ≤ B.cuts board.new }
+    ensures cause { CausedBy RefusalCause (B.faults board.old) (B.faults board.new) result }
 {
-    match commit(board, side, meter.state()) {
-        Ok(turned) => Ok(turned),
-        Err(StoreFault::Cut) => Err(Refusal::Cut),
-        Err(_) => Err(Refusal::Failed),
-    }
+    commit(board, side, meter.state())
 }
 
 /// Shows the meter's record, which the memory holds.
-pub(crate) fn acknowledge<B: Board>(meter: &Meter, board: &mut B) -> Result<(), Ended>
-    ensures shows { B.tells → ShowGives (B.trace board.old) (ok_text (settings_of meter.now.config) (record_view meter.now.record)) result (B.trace board.new) }
-    ensures base { B.tells → base_of (B.trace board.new) ≡ base_of (B.trace board.old) }
-    ensures settled { B.tells → NothingPending (B.trace board.old) → OnOk result (NothingPending (B.trace board.new)) }
+pub(crate) fn acknowledge<B: Board>(meter: &Meter, board: &mut B) -> Result<(), Failed>
+    ensures shows { B.tells → PutGives (B.trace board.old) (ok_text (settings_of meter.now.config) (record_view meter.now.record)) result (B.trace board.new) }
+    ensures goes_on { B.tells → GoesOn result (B.trace board.old) (B.trace board.new) (B.faults board.old) (B.faults board.new) }
     ensures reads { B.tells → B.reads board.new ≡ B.reads board.old }
-    ensures counted { B.tells → CountsCuts (B.trace board.old) (B.trace board.new) (B.cuts board.old) (B.cuts board.new) }
-    ensures only { IfErr result (λ e. e ≡ Ended.Write) }
-    ensures write { IsErrOf result Ended.Write → Rose (B.output_faults board.old) (B.output_faults board.new) }
-    ensures memory_faults { B.memory_faults board.old ≤ B.memory_faults board.new }
-    ensures output_faults { B.output_faults board.old ≤ B.output_faults board.new }
-    ensures cuts { B.cuts board.old ≤ B.cuts board.new }
+    ensures cause { CausedBy OutputCause (B.faults board.old) (B.faults board.new) result }
 {
     let mut line = LineText::new();
     ok_line(&mut line, meter.state(), meter.config().per_pulse);
@@ -76,17 +62,11 @@ pub(crate) fn acknowledge<B: Board>(meter: &Meter, board: &mut B) -> Result<(), 
 }
 
 /// Tells the meter's record, which was recovered after a power failure.
-pub(crate) fn tell_recovered<B: Board>(meter: &Meter, board: &mut B) -> Result<(), Ended>
-    ensures shows { B.tells → ShowGives (B.trace board.old) (power_text (settings_of meter.now.config) (record_view meter.now.record)) result (B.trace board.new) }
-    ensures base { B.tells → base_of (B.trace board.new) ≡ base_of (B.trace board.old) }
-    ensures settled { B.tells → NothingPending (B.trace board.old) → OnOk result (NothingPending (B.trace board.new)) }
+pub(crate) fn tell_recovered<B: Board>(meter: &Meter, board: &mut B) -> Result<(), Failed>
+    ensures shows { B.tells → PutGives (B.trace board.old) (power_text (settings_of meter.now.config) (record_view meter.now.record)) result (B.trace board.new) }
+    ensures goes_on { B.tells → GoesOn result (B.trace board.old) (B.trace board.new) (B.faults board.old) (B.faults board.new) }
     ensures reads { B.tells → B.reads board.new ≡ B.reads board.old }
-    ensures counted { B.tells → CountsCuts (B.trace board.old) (B.trace board.new) (B.cuts board.old) (B.cuts board.new) }
-    ensures only { IfErr result (λ e. e ≡ Ended.Write) }
-    ensures write { IsErrOf result Ended.Write → Rose (B.output_faults board.old) (B.output_faults board.new) }
-    ensures memory_faults { B.memory_faults board.old ≤ B.memory_faults board.new }
-    ensures output_faults { B.output_faults board.old ≤ B.output_faults board.new }
-    ensures cuts { B.cuts board.old ≤ B.cuts board.new }
+    ensures cause { CausedBy OutputCause (B.faults board.old) (B.faults board.new) result }
 {
     let mut line = LineText::new();
     power_line(&mut line, meter.state(), meter.config().per_pulse);
@@ -95,23 +75,24 @@ pub(crate) fn tell_recovered<B: Board>(meter: &Meter, board: &mut B) -> Result<(
 
 /// Orders a cut of the power: within the `n`-th store or sync from now on, of which the first `keep` bytes are written
 /// and `fill` in the place of the others.
-pub(crate) fn order_cut<B: Board>(n: u16, keep: u16, fill: u8, board: &mut B) -> Result<(), Ended>
+pub(crate) fn order_cut<B: Board>(
+    n: u16,
+    keep: u16,
+    fill: u8,
+    board: &mut B,
+) -> Result<(), OrderFault>
     requires { 1 ≤ n }
     ensures gives { B.tells → OrderGives n keep fill (B.trace board.old) result (B.trace board.new) }
-    ensures base { B.tells → base_of (B.trace board.new) ≡ base_of (B.trace board.old) }
-    ensures settled { B.tells → NothingPending (B.trace board.old) → OnOk result (NothingPending (B.trace board.new)) }
+    ensures goes_on { B.tells → GoesOn result (B.trace board.old) (B.trace board.new) (B.faults board.old) (B.faults board.new) }
     ensures reads { B.tells → B.reads board.new ≡ B.reads board.old }
-    ensures counted { B.tells → CountsCuts (B.trace board.old) (B.trace board.new) (B.cuts board.old) (B.cuts board.new) }
-    ensures only { IfErr result (λ e. (e ≡ Ended.Memory) ⊎ (e ≡ Ended.Write)) }
-    ensures memory { IsErrOf result Ended.Memory → Rose (B.memory_faults board.old) (B.memory_faults board.new) }
-    ensures write { IsErrOf result Ended.Write → Rose (B.output_faults board.old) (B.output_faults board.new) }
-    ensures memory_faults { B.memory_faults board.old ≤ B.memory_faults board.new }
-    ensures output_faults { B.output_faults board.old ≤ B.output_faults board.new }
-    ensures cuts { B.cuts board.old ≤ B.cuts board.new }
+    ensures cause { CausedBy OrderCause (B.faults board.old) (B.faults board.new) result }
 {
     match board.arm(n, keep, fill) {
-        Ok(()) => show(b"armed\n".as_slice(), board),
-        Err(Failed) => Err(Ended::Memory),
+        Ok(()) => match show(b"armed\n".as_slice(), board) {
+            Ok(()) => Ok(()),
+            Err(Failed) => Err(OrderFault::Write),
+        },
+        Err(Failed) => Err(OrderFault::Memory),
     }
 }
 
@@ -121,19 +102,13 @@ pub(crate) fn answer_message<B: Board>(
     meter: &Meter,
     optical: &mut Optical,
     board: &mut B,
-) -> Result<(), Ended>
+) -> Result<(), Failed>
     ensures shows { B.tells → (last : Option (List ℕ)) → Heard (config_view meter.now.config) last optical.old
         → ShowsReply (config_view meter.now.config) (record_view meter.now.record) last message.now (B.trace board.old) result (B.trace board.new) }
     ensures heard { Heard (config_view meter.now.config) (Some message.now) optical.new }
-    ensures base { B.tells → base_of (B.trace board.new) ≡ base_of (B.trace board.old) }
-    ensures settled { B.tells → NothingPending (B.trace board.old) → OnOk result (NothingPending (B.trace board.new)) }
+    ensures goes_on { B.tells → GoesOn result (B.trace board.old) (B.trace board.new) (B.faults board.old) (B.faults board.new) }
     ensures reads { B.tells → B.reads board.new ≡ B.reads board.old }
-    ensures counted { B.tells → CountsCuts (B.trace board.old) (B.trace board.new) (B.cuts board.old) (B.cuts board.new) }
-    ensures only { IfErr result (λ e. e ≡ Ended.Write) }
-    ensures write { IsErrOf result Ended.Write → Rose (B.output_faults board.old) (B.output_faults board.new) }
-    ensures memory_faults { B.memory_faults board.old ≤ B.memory_faults board.new }
-    ensures output_faults { B.output_faults board.old ≤ B.output_faults board.new }
-    ensures cuts { B.cuts board.old ≤ B.cuts board.new }
+    ensures cause { CausedBy OutputCause (B.faults board.old) (B.faults board.new) result }
 {
     let reply = optical.hear(message, meter.config(), meter.state());
     let text = readout_line("opt", meter.state(), bytes_of(&reply));
@@ -146,18 +121,12 @@ pub(crate) fn answer_bytes<B: Board>(
     meter: &Meter,
     slave: &mut Slave,
     board: &mut B,
-) -> Result<(), Ended>
+) -> Result<(), Failed>
     ensures shows { B.tells → (heard : List slaves.Heard) → IsAfter (config_view meter.now.config) heard slave.old
         → ShowsOnBus (config_view meter.now.config) (record_view meter.now.record) heard bytes.now slave.new (B.trace board.old) result (B.trace board.new) }
-    ensures base { B.tells → base_of (B.trace board.new) ≡ base_of (B.trace board.old) }
-    ensures settled { B.tells → NothingPending (B.trace board.old) → OnOk result (NothingPending (B.trace board.new)) }
+    ensures goes_on { B.tells → GoesOn result (B.trace board.old) (B.trace board.new) (B.faults board.old) (B.faults board.new) }
     ensures reads { B.tells → B.reads board.new ≡ B.reads board.old }
-    ensures counted { B.tells → CountsCuts (B.trace board.old) (B.trace board.new) (B.cuts board.old) (B.cuts board.new) }
-    ensures only { IfErr result (λ e. e ≡ Ended.Write) }
-    ensures write { IsErrOf result Ended.Write → Rose (B.output_faults board.old) (B.output_faults board.new) }
-    ensures memory_faults { B.memory_faults board.old ≤ B.memory_faults board.new }
-    ensures output_faults { B.output_faults board.old ≤ B.output_faults board.new }
-    ensures cuts { B.cuts board.old ≤ B.cuts board.new }
+    ensures cause { CausedBy OutputCause (B.faults board.old) (B.faults board.new) result }
 {
     let reply = hear_bytes(bytes, meter, slave);
     let text = readout_line("mbus", meter.state(), bytes_of(&reply));
@@ -184,20 +153,12 @@ fn bytes_of<const N: usize>(reply: &Option<ArrayVec<u8, N>>) -> Option<&[u8]>
 }
 
 /// Puts a text out.
-fn show<B: Board>(text: &[u8], board: &mut B) -> Result<(), Ended>
+fn show<B: Board>(text: &[u8], board: &mut B) -> Result<(), Failed>
     requires { 0 < length text.now }
-    ensures gives { B.tells → ShowGives (B.trace board.old) text.now result (B.trace board.new) }
-    ensures settled { B.tells → NothingPending (B.trace board.old) → OnOk result (NothingPending (B.trace board.new)) }
+    ensures gives { B.tells → PutGives (B.trace board.old) text.now result (B.trace board.new) }
+    ensures goes_on { B.tells → GoesOn result (B.trace board.old) (B.trace board.new) (B.faults board.old) (B.faults board.new) }
     ensures reads { B.tells → B.reads board.new ≡ B.reads board.old }
-    ensures counted { B.tells → CountsCuts (B.trace board.old) (B.trace board.new) (B.cuts board.old) (B.cuts board.new) }
-    ensures only { IfErr result (λ e. e ≡ Ended.Write) }
-    ensures write { IsErrOf result Ended.Write → Rose (B.output_faults board.old) (B.output_faults board.new) }
-    ensures memory_faults { B.memory_faults board.old ≤ B.memory_faults board.new }
-    ensures output_faults { B.output_faults board.old ≤ B.output_faults board.new }
-    ensures cuts { B.cuts board.old ≤ B.cuts board.new }
+    ensures cause { CausedBy OutputCause (B.faults board.old) (B.faults board.new) result }
 {
-    match board.put(text) {
-        Ok(()) => Ok(()),
-        Err(Failed) => Err(Ended::Write),
-    }
+    board.put(text)
 }

@@ -4,7 +4,7 @@ ghost use Rattle.billing_memory.specs.Records.{record_view};
 ghost use Rattle.event_script.specs.Views.{IsEvent, event_view, fault_view};
 ghost use Rattle.meter_config.specs.Views.{settings_of};
 ghost use Rattle.meter_core.specs.Events.{refused_view};
-ghost use Rattle.run_engine.specs.Takes.{Takes};
+ghost use Rattle.run_engine.specs.EventVerdict.{EventVerdict};
 
 use event_script::{Event, LineFault};
 use meter_core::{Meter, Refused};
@@ -21,9 +21,10 @@ fn line_fault(refused: Refused) -> LineFault
 }
 
 /// Takes the event of a line.
+#[inline(always)]
 pub(crate) fn take_event(event: &Event, meter: &mut Meter) -> Result<(), LineFault>
     requires { IsEvent event.now }
-    ensures takes { Takes (settings_of meter.old.config) (record_view meter.old.record) (event_view event.now) (record_view meter.new.record) result }
+    ensures takes { EventVerdict (settings_of meter.old.config) (record_view meter.old.record) (event_view event.now) (record_view meter.new.record) result }
     ensures config { meter.new.config ≡ meter.old.config }
 {
     match meter.apply(event) {

@@ -7,6 +7,7 @@ mod events;
 mod laws;
 mod on_memory;
 mod station;
+mod stop;
 mod text;
 mod without_memory;
 

@@ -3,12 +3,13 @@ ghost use Rattle.std.specs.Prelude.{◌≡◌, ◌≤◌, ◌+◌, ◌++◌, ◌
 ghost use Rattle.arrayvec.specs.ArrayVec.{array_vec_len};
 ghost use Rattle.hex.specs.Hex.{encode_lower};
 ghost use Rattle.metering_model.specs.Settings.{Settings};
-ghost use Rattle.journal_model.specs.Texts.{ok_text, power_text, readout_text, reply_shown, shown};
+ghost use Rattle.answer_model.specs.Texts.{ok_text, power_text, readout_text, reply_shown, shown};
 ghost use Rattle.billing_memory.specs.Records.{record_view};
 ghost use Rattle.line_text.specs.Text.{text_of};
 
 use arrayvec::ArrayVec;
 use billing_memory::MeterRecord;
+use byte_lists::append;
 use itoa::Buffer;
 use line_text::LineText;
 use optical_readout::REPLY_ROOM;
@@ -27,7 +28,9 @@ pub fn power_line(line: &mut LineText, meter_record: &MeterRecord, per_pulse: u1
     record_line(line, b"power ", meter_record, per_pulse);
 }
 
-// Makes the line of a record behind a name, which ends with its space: from its end to its begin.
+// Makes the line of a record behind a name, which ends with its space: from its end to its begin. Taken into its callers,
+// a name of few bytes is no call.
+#[inline(always)]
 #[tactic(auto, using(std::proofs::lemmas::List::append_assoc))]
 fn record_line(line: &mut LineText, name: &[u8], meter_record: &MeterRecord, per_pulse: u16)
     requires { length name.now ≤ 10 }
@@ -62,12 +65,12 @@ pub fn readout_line(
     ensures { result.items ≡ readout_text name.now (record_view meter_record.now) (option_map (λ bytes. bytes.now) reply.entry) }
 {
     let mut line = ArrayVec::new();
-    push(&mut line, name.as_bytes());
-    push(&mut line, b" ");
-    push(&mut line, Buffer::new().format(meter_record.seq).as_bytes());
-    push(&mut line, b" ");
+    append(&mut line, name.as_bytes());
+    append(&mut line, b" ");
+    append(&mut line, Buffer::new().format(meter_record.seq).as_bytes());
+    append(&mut line, b" ");
     push_reply(&mut line, reply);
-    push(&mut line, b"\n");
+    append(&mut line, b"\n");
     line
 }
 
@@ -80,15 +83,8 @@ fn push_reply(line: &mut ArrayVec<u8, READOUT_ROOM>, reply: Option<&[u8]>)
 {
     match reply {
         Some(bytes) => push_hex(line, bytes),
-        None => push(line, b"-"),
+        None => append(line, b"-"),
     }
-}
-
-fn push(line: &mut ArrayVec<u8, READOUT_ROOM>, bytes: &[u8])
-    requires { array_vec_len line.old + length bytes.now ≤ 4160 }
-    ensures { line.new.items ≡ line.old.items ++ bytes.now }
-{
-    line.try_extend_from_slice(bytes).unwrap();
 }
 
 // Adds bytes in hexadecimal.
@@ -101,5 +97,5 @@ fn push_hex(line: &mut ArrayVec<u8, READOUT_ROOM>, bytes: &[u8])
     let mut room = [0; 2 * REPLY_ROOM];
     let digits = &mut room[..2 * bytes.len()];
     hex::encode_to_slice(bytes, digits).unwrap();
-    push(line, digits);
+    append(line, digits);
 }

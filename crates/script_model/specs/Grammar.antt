@@ -1,7 +1,9 @@
 -- What a line of a script says, or the place of its first wrong, missing or extra word, from 0.
 use Rattle.std.specs.Prelude.{ℕ, cond, nat_eq, List, [], ◌∷◌, codes, Option, None, Some, Result, Ok, Err}
 use Rattle.std.specs.Cmp.Lexicographic.{pointwise}
+use Rattle.trace_model.specs.Images.{memory_size}
 use Rattle.metering_model.specs.Events.{Event, Sample, Pulse, Date}
+use Rattle.metering_model.specs.Limits.{max_pulses}
 use Rattle.script_model.specs.Lines.{words_of}
 use Rattle.script_model.specs.Numbers.{number_in}
 use Rattle.script_model.specs.Dates.{date_in}
@@ -44,24 +46,16 @@ end_at place x (word ∷ words) = Err place
 abbrev pub max_sample : ℕ
 max_sample = 4294967295
 
--- the most pulses of one line, and of a register
-abbrev pub max_pulses : ℕ
-max_pulses = 1000000000000000
-
 -- the latest store or sync, counted from a `cut` line on, that it can name
 abbrev pub max_calls : ℕ
 max_calls = 65535
-
--- the bytes of the memory
-abbrev pub memory_size : ℕ
-memory_size = 16384
 
 -- `sample RF RR`
 abbrev pub sample_line : List (List ℕ) → Result Line ℕ
 sample_line words =
     word_at 1 (number_in 0 max_sample) words >>= λ rf. word_at 2 (number_in 0 max_sample) rf.1 >>= λ rr. end_at 3 (Metering (Sample rf.0 rr.0)) rr.1
 
--- `pulse N`
+-- `pulse N`, at most as many as a register counts
 abbrev pub pulse_line : List (List ℕ) → Result Line ℕ
 pulse_line words = word_at 1 (number_in 1 max_pulses) words >>= λ n. end_at 2 (Metering (Pulse n.0)) n.1
 

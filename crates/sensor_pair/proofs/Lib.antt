@@ -1,1 +1,1 @@
-pub mod Differences
+pub mod Calibrations

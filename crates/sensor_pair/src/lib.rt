@@ -2,9 +2,7 @@
 #![tactic(auto)]
 
 mod pair;
-mod place;
 mod verdict;
 
 pub use pair::Pair;
-pub use place::Place;
 pub use verdict::Verdict;

@@ -3,8 +3,12 @@ ghost use Rattle.platinum_model.specs.Sample.{IsInRange, IsCellSpan};
 ghost use Rattle.platinum_model.specs.Pair.{IsCountingPair, IsSmallPair};
 ghost use Rattle.pt_curve.specs.Curve.{element};
 ghost use Rattle.sensor_pair.specs.Verdict.{IsCounts, IfCounts};
+ghost use Rattle.std.specs.Prelude.{IsTrue};
+ghost use Rattle.config_model.specs.Configuration.{flow_or_nominal, is_calibration, return_or_nominal};
+ghost use Rattle.meter_parts.specs.Views.{calibration_view, sensor_ohm};
 
 use crate::verdict::Verdict;
+use meter_parts::{Cal, Sensor};
 use pt_curve::Curve;
 
 /// The least whole temperature difference, in microdegrees Celsius, that counts energy.
@@ -18,8 +22,25 @@ pub struct Pair {
 }
 
 impl Pair {
+    /// The curves of two sensors of this kind, with these constants in flow and return where they are calibrated.
+    pub fn of(sensor: Sensor, cal: Option<(Cal, Cal)>) -> Pair
+        requires fits { IsTrue (is_calibration (sensor_ohm sensor) (calibration_view cal)) }
+        ensures flow { element result.flow ≡ flow_or_nominal (sensor_ohm sensor) (calibration_view cal) }
+        ensures ret { element result.ret ≡ return_or_nominal (sensor_ohm sensor) (calibration_view cal) }
+    {
+        match cal {
+            None => Pair {
+                flow: Curve::nominal(sensor),
+                ret: Curve::nominal(sensor),
+            },
+            Some((flow, ret)) => Pair {
+                flow: Curve::calibrated(flow),
+                ret: Curve::calibrated(ret),
+            },
+        }
+    }
+
     /// What the samples `rf` of the flow and `rr` of the return say, both in microohms.
-    #[tactic(auto, using(crate::proofs::Differences::one_difference))]
     pub fn judge(&self, rf: u32, rr: u32) -> Verdict
         ensures flow_out { (result ≡ Verdict.FlowOut)
             ↔ (¬ IsInRange (element self.now.flow) rf × IsInRange (element self.now.ret) rr) }
@@ -48,37 +69,5 @@ impl Pair {
                 }
             }
         }
-    }
-}
-
-#[cfg(test)]
-mod tests {
-    use super::*;
-    use interval_num::Span;
-    use pt_curve::Sensor;
-
-    #[test]
-    fn verdicts(rt: HostRuntime) {
-        let curve = Curve::nominal(Sensor::Pt500);
-        let pair = Pair {
-            flow: curve,
-            ret: curve,
-        };
-        let counts = Verdict::Counts {
-            f: Span {
-                lo: 59_999_999_739,
-                hi: 60_000_000_261,
-            },
-            r: Span {
-                lo: 49_999_999_740,
-                hi: 50_000_000_260,
-            },
-        };
-        assert_eq!(rt; pair.judge(616_209_500, 596_985_625), counts);
-        assert_eq!(rt; pair.judge(0, 596_985_625), Verdict::FlowOut);
-        assert_eq!(rt; pair.judge(616_209_500, 0), Verdict::ReturnOut);
-        assert_eq!(rt; pair.judge(0, 0), Verdict::BothOut);
-        assert_eq!(rt; pair.judge(597_004_877, 596_985_625), Verdict::Small);
-        assert_ne!(rt; pair.judge(597_004_878, 596_985_625), Verdict::Small);
     }
 }

@@ -1,28 +1,11 @@
 -- The lines of a new meter of the standard configuration, and those of one with months and a set day, worked by hand.
 use Rattle.std.proofs.Common.{◌≡◌, ℕ, List, [], ◌∷◌, ◌++◌, pos, negsuc, Some, None, refl, codes}
 use Rattle.std.specs.Fmt.{digits}
-use Rattle.heat_model.specs.Heat.{Return}
 use Rattle.calendar_model.proofs.Worked.{written_january_15, written_february_1, written_march_1, written_april_1, written_new_year}
 use Rattle.config_model.specs.Configuration.{Configuration}
+use Rattle.config_model.specs.Standard.{standard}
 use Rattle.metering_model.specs.Records.{MeterRecord, Register, opening_record}
 use Rattle.show_model.specs.Lines.{AreShowLines, volume_line, energy_line}
-
-abbrev pub standard : Configuration
-standard = record {
-  serial = 12345678;
-  maker = 65 ∷ 66 ∷ 67 ∷ [];
-  version = 1;
-  address = 1;
-  place = Return;
-  pressure_kpa = 1600;
-  sensor_ohm = 500;
-  litres_per_pulse = 10;
-  energy_decimals = 0;
-  volume_decimals = 2;
-  set_month = 1;
-  opening_day = 8780;
-  calibration = None;
-}
 
 -- ---- a new meter
 

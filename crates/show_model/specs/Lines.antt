@@ -6,7 +6,7 @@ use Rattle.calendar_model.specs.Texts.{IsDayText}
 use Rattle.config_model.specs.Configuration.{Configuration}
 use Rattle.display_model.specs.Display.{energy_unit, volume_unit, shown_digits, eight_digits, pointed}
 use Rattle.metering_model.specs.Records.{MeterRecord, Register}
-use Rattle.journal_model.specs.Texts.{register_shown}
+use Rattle.answer_model.specs.Texts.{register_shown}
 
 -- what a display of eight digits shows of a register, in units of its last digit, with so many decimals
 abbrev pub display_text : (decimals unit : ℕ) → ℤ → List ℕ

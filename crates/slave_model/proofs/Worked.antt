@@ -1,30 +1,12 @@
 -- Replies of a meter at address 1, worked by hand.
 use Rattle.std.proofs.Common.{◌≡◌, ℕ, List, [], ◌∷◌, Option, None, Some, pos, refl}
-use Rattle.heat_model.specs.Heat.{Return}
 use Rattle.calendar_model.specs.Entries.{MonthEntry}
-use Rattle.config_model.specs.Configuration.{Configuration}
+use Rattle.config_model.specs.Standard.{standard}
 use Rattle.metering_model.specs.Records.{Register, MeterRecord}
 use Rattle.frame_model.specs.Frames.{Frame, Ack, Short}
 use Rattle.telegram_model.specs.Telegram.{telegram}
 use Rattle.slave_model.specs.Heard.{Heard}
 use Rattle.slave_model.specs.Replies.{reply_to}
-
-abbrev configuration : Configuration
-configuration = record {
-  serial = 12345678;
-  maker = 65 ∷ 66 ∷ 67 ∷ [];
-  version = 1;
-  address = 1;
-  place = Return;
-  pressure_kpa = 1600;
-  sensor_ohm = 500;
-  litres_per_pulse = 10;
-  energy_decimals = 0;
-  volume_decimals = 2;
-  set_month = 1;
-  opening_day = 8780;
-  calibration = None;
-}
 
 abbrev register : Register
 register = record { pulses = 3; energy_mj = pos 0; bound_mj = 0 }
@@ -72,7 +54,7 @@ abbrev reset : MeterRecord → Heard
 reset in_force = short 64 1 in_force
 
 abbrev reply : List Heard → Heard → Option Frame
-reply heard h = reply_to configuration heard h
+reply heard h = reply_to standard heard h
 
 -- a reset to the meter is acknowledged, also to whichever slave there is; one to all or to another address is not
 acknowledged : reply [] (reset january) ≡ Some Ack
@@ -101,41 +83,41 @@ answer : reply [] (record { frame = Ack; in_force = january }) ≡ None
 answer = refl
 
 -- a first request, and the same again
-first : reply [] (ask_7b january) ≡ telegram configuration january 0 0
+first : reply [] (ask_7b january) ≡ telegram standard january 0 0
 first = refl
 
-again : reply (ask_7b january ∷ []) (ask_7b february) ≡ telegram configuration january 0 0
+again : reply (ask_7b january ∷ []) (ask_7b february) ≡ telegram standard january 0 0
 again = refl
 
 -- the next telegram is of the record that the reading has frozen
-frozen_record : reply (ask_7b february ∷ []) (ask_5b march) ≡ telegram configuration february 1 1
+frozen_record : reply (ask_7b february ∷ []) (ask_5b march) ≡ telegram standard february 1 1
 frozen_record = refl
 
 -- where there is no further telegram, a reading begins anew
-anew : reply (ask_7b january ∷ []) (ask_5b february) ≡ telegram configuration february 0 1
+anew : reply (ask_7b january ∷ []) (ask_5b february) ≡ telegram standard february 0 1
 anew = refl
 
 -- after a reset a reading begins anew, and the access number goes on
-after_reset : reply (ask_7b january ∷ reset january ∷ []) (ask_7b february) ≡ telegram configuration february 0 1
+after_reset : reply (ask_7b january ∷ reset january ∷ []) (ask_7b february) ≡ telegram standard february 0 1
 after_reset = refl
 
-after_reset_of_all : reply (ask_7b january ∷ short 64 255 january ∷ []) (ask_7b february) ≡ telegram configuration february 0 1
+after_reset_of_all : reply (ask_7b january ∷ short 64 255 january ∷ []) (ask_7b february) ≡ telegram standard february 0 1
 after_reset_of_all = refl
 
 -- frames for another address change nothing
-others : reply (short 123 2 january ∷ ask_7b february ∷ short 64 2 march ∷ short 91 255 march ∷ []) (ask_5b march) ≡ telegram configuration february 1 1
+others : reply (short 123 2 january ∷ ask_7b february ∷ short 64 2 march ∷ short 91 255 march ∷ []) (ask_5b march) ≡ telegram standard february 1 1
 others = refl
 
 -- a repeated request has the reply of the request before it, also behind a repeated one
-third_time : reply (ask_7b february ∷ ask_5b march ∷ ask_5b march ∷ []) (ask_5b march) ≡ telegram configuration february 1 1
+third_time : reply (ask_7b february ∷ ask_5b march ∷ ask_5b march ∷ []) (ask_5b march) ≡ telegram standard february 1 1
 third_time = refl
 
 -- three telegrams of 13 month entries, and a reading anew
-second_of_full : reply (ask_7b full ∷ []) (ask_5b march) ≡ telegram configuration full 1 1
+second_of_full : reply (ask_7b full ∷ []) (ask_5b march) ≡ telegram standard full 1 1
 second_of_full = refl
 
-third_of_full : reply (ask_7b full ∷ ask_5b march ∷ []) (ask_7b march) ≡ telegram configuration full 2 2
+third_of_full : reply (ask_7b full ∷ ask_5b march ∷ []) (ask_7b march) ≡ telegram standard full 2 2
 third_of_full = refl
 
-after_full : reply (ask_7b full ∷ ask_5b march ∷ ask_5b march ∷ ask_7b march ∷ []) (ask_5b march) ≡ telegram configuration march 0 3
+after_full : reply (ask_7b full ∷ ask_5b march ∷ ask_5b march ∷ ask_7b march ∷ []) (ask_5b march) ≡ telegram standard march 0 3
 after_full = refl

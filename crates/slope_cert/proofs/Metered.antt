@@ -17,12 +17,13 @@ use Rattle.platinum_model.proofs.Fitting.{fitting-steep}
 use Rattle.water_model.specs.Water.{volume, enthalpy, sum_over}
 use Rattle.number_model.proofs.Laws.{add_zero}
 use Rattle.region1_ranges.proofs.Within.{volume_everywhere}
-use Rattle.heat_model.specs.Heat.{Place, Flow, Return, metered_at, litre_energy}
+use Rattle.heat_model.specs.Heat.{metered_at, litre_energy}
+use Rattle.parts_model.specs.Place.{Place, Flow, Return}
 use Rattle.metering_model.specs.Events.{Event, Sample, Pulse, Date, Kept, Placed, placed, placed_after}
 use Rattle.metering_model.specs.Settings.{Settings}
 use Rattle.metering_model.specs.Counting.{Counted, counted_by, counts}
 use Rattle.metering_model.specs.Records.{MeterRecord, counted_at, samples_after}
-use Rattle.metering_model.specs.Integral.{Temps, AreInCells, IsChoiceOf, IsChoice, energy_or_none, exact_integral}
+use Rattle.integral_model.specs.Integral.{Temps, AreInCells, IsChoiceOf, IsChoice, energy_or_none, exact_integral}
 use Rattle.metering_model.proofs.Counting.{counts-is}
 use Rattle.metering_model.proofs.Joined.{placed-append}
 use Rattle.slope_cert.specs.Meters.{MetersRising, CountedLitresHeat, IntegralNeverFalls}

@@ -11,9 +11,6 @@ pub curvature_room : curvature_sum_size.most ≤ 2 ^ 62
 unfolding curvature_sum_size total_size total monomial_size slope region1
 curvature_room = lit≤ tt
 
-pub first_factor : gas_constant_size.most * tau_size.most ≤ (2 ^ 62 - 1) * 2 ^ 56
-first_factor = lit≤ tt
-
 pub second_factor : (product_size (2 ^ 56) gas_constant_size tau_size).most * tau_size.most ≤ (2 ^ 62 - 1) * 2 ^ 56
 second_factor = lit≤ tt
 

@@ -1,5 +1,6 @@
 -- Meters at whose pressure the enthalpy rises, and what they count.
 use Rattle.std.specs.Prelude.{◌≡◌, ℕ, ◌≤◌, List, ◌++◌, Option, Some}
+use Rattle.parts_model.specs.Ranges.{max_pressure_kpa, min_pressure_kpa}
 use Rattle.number_model.specs.Fraction.{◌≤ℚ◌, ◌<ℚ◌, whole}
 use Rattle.heat_model.specs.Heat.{litre_energy}
 use Rattle.pt_curve.specs.Curve.{element}
@@ -8,7 +9,7 @@ use Rattle.metering_model.specs.Events.{Event, Kept}
 use Rattle.metering_model.specs.Settings.{Settings}
 use Rattle.metering_model.specs.Counting.{Counted, counted_by}
 use Rattle.metering_model.specs.Records.{MeterRecord}
-use Rattle.metering_model.specs.Integral.{Temps, AreInCells, IsChoice, exact_integral}
+use Rattle.integral_model.specs.Integral.{Temps, AreInCells, IsChoice, exact_integral}
 use Rattle.slope_model.specs.Slope.{EnthalpyRises}
 
 -- the sensors have these curves, and the pressure is from 1,100 to 4,000 kPa and one at which the enthalpy rises
@@ -17,8 +18,8 @@ pub record MetersRising (c : Settings) : Type 0 where
   pub ret : Curve
   pub flow_is : c.flow ≡ element flow
   pub ret_is : c.ret ≡ element ret
-  pub pressure_low : 1100 ≤ c.pressure_kpa
-  pub pressure_high : c.pressure_kpa ≤ 4000
+  pub pressure_low : min_pressure_kpa ≤ c.pressure_kpa
+  pub pressure_high : c.pressure_kpa ≤ max_pressure_kpa
   pub rises : EnthalpyRises c.pressure_kpa
 
 -- each litre that is counted gives off energy, whatever the temperatures in the cells

@@ -1,6 +1,6 @@
 ghost use Rattle.std.specs.Prelude.{◌≡◌, ℕ, ◌-◌, ◌^◌, ◌≤◌, pos, neg_ℤ, ◌≤ℤ◌};
 ghost use Rattle.number_model.specs.Fraction.{Fraction, ◌*ℚ◌};
-ghost use Rattle.number_model.specs.Enclosure.{Holds, SpanHolds};
+ghost use Rattle.number_model.specs.Enclosure.{Holds, SpanHolds, max_ndeg};
 ghost use Rattle.interval_num.specs.Ends.{quotient_floor, quotient_ceil};
 ghost use Rattle.water_model.specs.Water.{tau_of, gas_constant};
 ghost use Rattle.enclosure_sizes.specs.Size.{Size, SizedBy, product_size};
@@ -11,7 +11,7 @@ use interval_num::{Enc, Span};
 
 // tau = 1386 / T at t nanodegrees
 fn tau_at(t: u64) -> Enc<56>
-    requires { t ≤ 180000000000 }
+    requires { t ≤ max_ndeg }
     ensures lo { result.lo ≡ quotient_floor 56 (pos 1386000000000) (pos (nanokelvin_of t)) }
     ensures hi { result.hi ≡ quotient_ceil 56 (pos 1386000000000) (pos (nanokelvin_of t)) }
 {

@@ -10,6 +10,3 @@ mod slopes;
 pub use laws::{metered_energy_never_falls, segments_join};
 pub use region1_terms::PressureVariable;
 pub use slopes::{Incline, rises, slope, slope_at};
-
-#[cfg(test)]
-mod tests;

@@ -1,4 +1,5 @@
 ghost use Rattle.std.specs.Prelude.{◌≡◌, ℕ, ◌+◌, ◌-◌, ◌*◌, ◌^◌, ◌<◌, ◌≤◌, ◌↔◌, IsOk, IfErr, IfSome, All, length, position, int_le, None, Some, pos, ◌-ℤ◌, ◌*ℤ◌, ◌≤ℤ◌};
+ghost use Rattle.parts_model.specs.Ranges.{max_pressure_kpa, min_pressure_kpa};
 ghost use Rattle.number_model.specs.Fraction.{Fraction, ◌<ℚ◌, ◌*ℚ◌, whole};
 ghost use Rattle.number_model.specs.Enclosure.{Holds, SpanHolds};
 ghost use Rattle.number_model.specs.Rounding.{floor_div, ceil_div};
@@ -70,8 +71,8 @@ fn slope_within(x: &PressureVariable, span: Span) -> Incline
 /// The range of the slope of the enthalpy over any two temperatures of a segment, from `segment` to
 /// `segment + 1` °C, at `p_kpa` kPa, 1,100 to 4,000. It is at most 4 kJ/(kg K) wide.
 pub fn slope(p_kpa: u32, segment: u8) -> Incline
-    requires low { 1100 ≤ p_kpa }
-    requires high { p_kpa ≤ 4000 }
+    requires low { min_pressure_kpa ≤ p_kpa }
+    requires high { p_kpa ≤ max_pressure_kpa }
     requires segment { segment < 180 }
     ensures holds { SlopesLie p_kpa segment result.lo result.hi }
     ensures width { (result.hi -ℤ result.lo) ≤ℤ pos (4 * 10 ^ 9) }

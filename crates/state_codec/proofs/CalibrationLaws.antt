@@ -8,9 +8,10 @@ use Rattle.std.proofs.lemmas.List.{drop-drop}
 use Rattle.platinum_model.specs.Element.{Element}
 use Rattle.platinum_model.specs.Calibration.{fits, fits_r0, fits_a, fits_b}
 use Rattle.config_model.specs.Configuration.{both, is_calibration}
-use Rattle.memory_model.specs.Fields.{AreBytes, little_endian, number}
-use Rattle.memory_model.specs.Header.{constants_of}
-use Rattle.state_codec.specs.Header.{calibration_fields, calibration_of, constants_bytes, calibration_bytes}
+use Rattle.memory_model.specs.Fields.{little_endian, number}
+use Rattle.byte_model.specs.Bytes.{AreBytes}
+use Rattle.memory_model.specs.Header.{calibration_fields, constants_of}
+use Rattle.state_codec.specs.Header.{calibration_of, constants_bytes, calibration_bytes}
 use Rattle.state_codec.proofs.Checks.{AllKeep}
 use Rattle.state_codec.proofs.Spelling.{written_1, written_2, written_4, piece, spelled_1, spelled_2, spelled_4}
 

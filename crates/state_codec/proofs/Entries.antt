@@ -1,19 +1,20 @@
 -- The bytes of an entry and of a record's sums, as they are written.
 use Rattle.std.proofs.Common.{◌≡◌, ℕ, ◌*◌, ◌^◌, ◌<◌, ◌≤◌, ℤ, pos, negsuc, FitsSigned, List, [], ◌∷◌, get_or, nat_abs, arith}
 use Rattle.std.specs.Int.{w16, w32, w64, w128, to_le_bytes, cast_unsigned}
+use Rattle.metering_model.specs.Limits.{max_energy_per_pulse, max_pulses}
 use Rattle.metering_model.specs.Records as records
 use Rattle.calendar_model.specs.Entries.{MonthEntry}
 use Rattle.energy_register.specs.declared.Register.{Register}
 use Rattle.state_codec.specs.Slot.{entry_bytes, sum_bytes, flow_of, return_of}
 
-small_energy : (z : ℤ) (pulses : ℕ) → nat_abs z ≤ 2000000000000 * pulses → pulses ≤ 1000000000000000 → FitsSigned w128 z
+small_energy : (z : ℤ) (pulses : ℕ) → nat_abs z ≤ max_energy_per_pulse * pulses → pulses ≤ max_pulses → FitsSigned w128 z
 small_energy (pos n) pulses within few = record { sfits = omega arith }
 small_energy (negsuc n) pulses within few = record { sfits = omega arith }
 
 pub energy_fits : (r : Register) → FitsSigned w128 r.energy_mj
 energy_fits r = small_energy r.energy_mj r.pulses r.energy_in_range r.pulses_in_range
 
-small_bits : (z : ℤ) (pulses : ℕ) → nat_abs z ≤ 2000000000000 * pulses → pulses ≤ 1000000000000000 → cast_unsigned w128 z < 2 ^ 128
+small_bits : (z : ℤ) (pulses : ℕ) → nat_abs z ≤ max_energy_per_pulse * pulses → pulses ≤ max_pulses → cast_unsigned w128 z < 2 ^ 128
 small_bits (pos n) pulses within few = omega arith
 small_bits (negsuc n) pulses within few = omega arith
 

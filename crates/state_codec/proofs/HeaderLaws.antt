@@ -5,11 +5,13 @@ use Rattle.std.specs.List.{list_all}
 use Rattle.std.specs.Int.{w16, w32, to_le_bytes, is_in_range}
 use Rattle.std.proofs.lemmas.Bool.{and_parts, eqb-true, cases_eq}
 use Rattle.std.proofs.lemmas.Bool.Decides.{nat_tests}
-use Rattle.heat_model.specs.Heat.{Place, Flow, Return}
-use Rattle.config_model.specs.Configuration.{Configuration, IsConfiguration, is_capital, is_sensor, is_pulse}
-use Rattle.memory_model.specs.Fields.{AreBytes, first_broken, unless_broken, number, zero_bytes}
-use Rattle.memory_model.specs.Header.{header_in, header_fields, configuration_of, place_of}
-use Rattle.state_codec.specs.Header.{identity_fields, measuring_fields, billing_fields, calibration_fields, calibration_of, place_code, identity_bytes, measuring_bytes, billing_bytes, calibration_bytes, header_bytes}
+use Rattle.parts_model.specs.Place.{Place, Flow, Return}
+use Rattle.config_model.specs.Configuration.{Configuration, IsConfiguration}
+use Rattle.parts_model.specs.Ranges.{is_capital, is_sensor, is_pulse}
+use Rattle.memory_model.specs.Fields.{first_broken, unless_broken, number, zero_bytes}
+use Rattle.byte_model.specs.Bytes.{AreBytes}
+use Rattle.memory_model.specs.Header.{billing_fields, calibration_fields, configuration_of, header_fields, header_in, identity_fields, measuring_fields, place_of}
+use Rattle.state_codec.specs.Header.{calibration_of, place_code, identity_bytes, measuring_bytes, billing_bytes, calibration_bytes, header_bytes}
 use Rattle.state_codec.proofs.Checks.{AllKeep, all_kept, first_broken-all, checked-ok}
 use Rattle.state_codec.proofs.CalibrationLaws.{spelled, spelled-is, calibration-keeps, calibration-again, calibration-spelled, tail-again}
 use Rattle.state_codec.proofs.Spelling.{written_1, written_2, written_4, written_zeros, piece, spelled_1, spelled_2, spelled_4, spelled_zeros}

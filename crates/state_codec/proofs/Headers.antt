@@ -2,15 +2,15 @@
 use Rattle.std.proofs.Common.{◌≡◌, ℕ, Bool, List, ◌++◌, Option, None, Some, Ok, Err, ◌∙◌, ap}
 use Rattle.config_model.specs.Configuration.{Configuration, both}
 use Rattle.platinum_model.specs.Element.{Element}
-use Rattle.heat_model.specs.Heat as heat
+use Rattle.parts_model.specs.Place as model
 use Rattle.memory_model.specs.Fields.{first_broken, unless_broken, zero_bytes}
-use Rattle.memory_model.specs.Header.{header_in, header_fields, configuration_of, are_calibrated, constants_fields, constants_of}
+use Rattle.memory_model.specs.Header.{are_calibrated, billing_fields, calibrated_fields, calibration_fields, configuration_of, constants_fields, constants_of, header_fields, header_in, identity_fields, measuring_fields}
 use Rattle.state_codec.specs.Reading.{checked}
-use Rattle.state_codec.specs.Header.{identity_fields, identity_of, measuring_fields, measuring_of, billing_fields, billing_of, calibrated_fields, calibration_fields, calibration_of}
+use Rattle.state_codec.specs.Header.{identity_of, measuring_of, billing_of, calibration_of}
 use Rattle.state_codec.proofs.Checks.{first_broken-none, first_broken-some, checked-ok, checked-err}
 
 -- the configuration of four parts
-abbrev pub joined : ℕ × List ℕ × ℕ × ℕ → heat.Place × ℕ × ℕ × ℕ → ℕ × ℕ × ℕ × ℕ → Option (Element × Element) → Configuration
+abbrev pub joined : ℕ × List ℕ × ℕ × ℕ → model.Place × ℕ × ℕ × ℕ → ℕ × ℕ × ℕ × ℕ → Option (Element × Element) → Configuration
 joined a b c d = record {
   serial = a.0;
   maker = a.1;
@@ -33,7 +33,7 @@ module _ (bytes : List ℕ) where
   identity_passes a e =
       first_broken-none identity_fields (measuring_fields ++ (billing_fields ++ (calibration_fields ++ zero_bytes 52 204))) bytes (checked-ok _ _ a e).0
 
-  measuring_passes : (b : heat.Place × ℕ × ℕ × ℕ) → checked measuring_fields bytes (measuring_of bytes) ≡ Ok b → first_broken (measuring_fields ++ (billing_fields ++ (calibration_fields ++ zero_bytes 52 204))) bytes ≡ first_broken (billing_fields ++ (calibration_fields ++ zero_bytes 52 204)) bytes
+  measuring_passes : (b : model.Place × ℕ × ℕ × ℕ) → checked measuring_fields bytes (measuring_of bytes) ≡ Ok b → first_broken (measuring_fields ++ (billing_fields ++ (calibration_fields ++ zero_bytes 52 204))) bytes ≡ first_broken (billing_fields ++ (calibration_fields ++ zero_bytes 52 204)) bytes
   measuring_passes b e = first_broken-none measuring_fields (billing_fields ++ (calibration_fields ++ zero_bytes 52 204)) bytes (checked-ok _ _ b e).0
 
   billing_passes : (c : ℕ × ℕ × ℕ × ℕ) → checked billing_fields bytes (billing_of bytes) ≡ Ok c → first_broken (billing_fields ++ (calibration_fields ++ zero_bytes 52 204)) bytes ≡ first_broken (calibration_fields ++ zero_bytes 52 204) bytes
@@ -49,7 +49,7 @@ module _ (bytes : List ℕ) where
   measuring_fails a at first e =
       ap (λ broken. unless_broken broken (configuration_of bytes)) (identity_passes a first ∙ first_broken-some measuring_fields (billing_fields ++ (calibration_fields ++ zero_bytes 52 204)) bytes at (checked-err _ _ at e))
 
-  pub billing_fails : (a : ℕ × List ℕ × ℕ × ℕ) (b : heat.Place × ℕ × ℕ × ℕ) (at : ℕ) → checked identity_fields bytes (identity_of bytes) ≡ Ok a → checked measuring_fields bytes (measuring_of bytes) ≡ Ok b → checked billing_fields bytes (billing_of bytes) ≡ Err at → header_in bytes ≡ Err at
+  pub billing_fails : (a : ℕ × List ℕ × ℕ × ℕ) (b : model.Place × ℕ × ℕ × ℕ) (at : ℕ) → checked identity_fields bytes (identity_of bytes) ≡ Ok a → checked measuring_fields bytes (measuring_of bytes) ≡ Ok b → checked billing_fields bytes (billing_of bytes) ≡ Err at → header_in bytes ≡ Err at
   unfolding header_in
   billing_fails a b at first second e =
       ap (λ broken. unless_broken broken (configuration_of bytes)) (identity_passes a first ∙ measuring_passes b second ∙ first_broken-some billing_fields (calibration_fields ++ zero_bytes 52 204) bytes at (checked-err _ _ at e))
@@ -57,20 +57,20 @@ module _ (bytes : List ℕ) where
   calibration_passes : (d : Option (Element × Element)) → checked calibration_fields bytes (calibration_of bytes) ≡ Ok d → first_broken (calibration_fields ++ zero_bytes 52 204) bytes ≡ first_broken (zero_bytes 52 204) bytes
   calibration_passes d e = first_broken-none calibration_fields (zero_bytes 52 204) bytes (checked-ok _ _ d e).0
 
-  pub calibration_fails : (a : ℕ × List ℕ × ℕ × ℕ) (b : heat.Place × ℕ × ℕ × ℕ) (c : ℕ × ℕ × ℕ × ℕ) (at : ℕ) → checked identity_fields bytes (identity_of bytes) ≡ Ok a → checked measuring_fields bytes (measuring_of bytes) ≡ Ok b → checked billing_fields bytes (billing_of bytes) ≡ Ok c → checked calibration_fields bytes (calibration_of bytes) ≡ Err at → header_in bytes ≡ Err at
+  pub calibration_fails : (a : ℕ × List ℕ × ℕ × ℕ) (b : model.Place × ℕ × ℕ × ℕ) (c : ℕ × ℕ × ℕ × ℕ) (at : ℕ) → checked identity_fields bytes (identity_of bytes) ≡ Ok a → checked measuring_fields bytes (measuring_of bytes) ≡ Ok b → checked billing_fields bytes (billing_of bytes) ≡ Ok c → checked calibration_fields bytes (calibration_of bytes) ≡ Err at → header_in bytes ≡ Err at
   unfolding header_in
   calibration_fails a b c at first second third e =
       ap (λ broken. unless_broken broken (configuration_of bytes)) (identity_passes a first ∙ measuring_passes b second ∙ billing_passes c third ∙ first_broken-some calibration_fields (zero_bytes 52 204) bytes at (checked-err _ _ at e))
 
-  whole : (a : ℕ × List ℕ × ℕ × ℕ) (b : heat.Place × ℕ × ℕ × ℕ) (c : ℕ × ℕ × ℕ × ℕ) (d : Option (Element × Element)) → checked identity_fields bytes (identity_of bytes) ≡ Ok a → checked measuring_fields bytes (measuring_of bytes) ≡ Ok b → checked billing_fields bytes (billing_of bytes) ≡ Ok c → checked calibration_fields bytes (calibration_of bytes) ≡ Ok d → first_broken header_fields bytes ≡ first_broken (zero_bytes 52 204) bytes
+  whole : (a : ℕ × List ℕ × ℕ × ℕ) (b : model.Place × ℕ × ℕ × ℕ) (c : ℕ × ℕ × ℕ × ℕ) (d : Option (Element × Element)) → checked identity_fields bytes (identity_of bytes) ≡ Ok a → checked measuring_fields bytes (measuring_of bytes) ≡ Ok b → checked billing_fields bytes (billing_of bytes) ≡ Ok c → checked calibration_fields bytes (calibration_of bytes) ≡ Ok d → first_broken header_fields bytes ≡ first_broken (zero_bytes 52 204) bytes
   whole a b c d first second third fourth = identity_passes a first ∙ measuring_passes b second ∙ billing_passes c third ∙ calibration_passes d fourth
 
-  pub blank_fails : (a : ℕ × List ℕ × ℕ × ℕ) (b : heat.Place × ℕ × ℕ × ℕ) (c : ℕ × ℕ × ℕ × ℕ) (d : Option (Element × Element)) (at : ℕ) → checked identity_fields bytes (identity_of bytes) ≡ Ok a → checked measuring_fields bytes (measuring_of bytes) ≡ Ok b → checked billing_fields bytes (billing_of bytes) ≡ Ok c → checked calibration_fields bytes (calibration_of bytes) ≡ Ok d → first_broken (zero_bytes 52 204) bytes ≡ Some at → header_in bytes ≡ Err at
+  pub blank_fails : (a : ℕ × List ℕ × ℕ × ℕ) (b : model.Place × ℕ × ℕ × ℕ) (c : ℕ × ℕ × ℕ × ℕ) (d : Option (Element × Element)) (at : ℕ) → checked identity_fields bytes (identity_of bytes) ≡ Ok a → checked measuring_fields bytes (measuring_of bytes) ≡ Ok b → checked billing_fields bytes (billing_of bytes) ≡ Ok c → checked calibration_fields bytes (calibration_of bytes) ≡ Ok d → first_broken (zero_bytes 52 204) bytes ≡ Some at → header_in bytes ≡ Err at
   unfolding header_in
   blank_fails a b c d at first second third fourth e =
       ap (λ broken. unless_broken broken (configuration_of bytes)) (whole a b c d first second third fourth ∙ e)
 
-  pub all_pass : (a : ℕ × List ℕ × ℕ × ℕ) (b : heat.Place × ℕ × ℕ × ℕ) (c : ℕ × ℕ × ℕ × ℕ) (d : Option (Element × Element)) → checked identity_fields bytes (identity_of bytes) ≡ Ok a → checked measuring_fields bytes (measuring_of bytes) ≡ Ok b → checked billing_fields bytes (billing_of bytes) ≡ Ok c → checked calibration_fields bytes (calibration_of bytes) ≡ Ok d → first_broken (zero_bytes 52 204) bytes ≡ None → header_in bytes ≡ Ok (joined a b c d)
+  pub all_pass : (a : ℕ × List ℕ × ℕ × ℕ) (b : model.Place × ℕ × ℕ × ℕ) (c : ℕ × ℕ × ℕ × ℕ) (d : Option (Element × Element)) → checked identity_fields bytes (identity_of bytes) ≡ Ok a → checked measuring_fields bytes (measuring_of bytes) ≡ Ok b → checked billing_fields bytes (billing_of bytes) ≡ Ok c → checked calibration_fields bytes (calibration_of bytes) ≡ Ok d → first_broken (zero_bytes 52 204) bytes ≡ None → header_in bytes ≡ Ok (joined a b c d)
   unfolding header_in configuration_of
   all_pass a b c d first second third fourth e =
       ap (λ broken. unless_broken broken (configuration_of bytes)) (whole a b c d first second third fourth ∙ e)

@@ -10,7 +10,7 @@ use Rattle.std.proofs.lemmas.Int.{to_z-of_z}
 use Rattle.std.proofs.lemmas.List.{take_at, drop_at, drop-drop, drop-replicate, length-map}
 use Rattle.std.proofs.lemmas.List.FromFn.{length-range_with_len, get_or-map-range_with_len, fill_by_all}
 use Rattle.metering_model.specs.Records as records
-use Rattle.calendar_model.specs.Calendar.{first_day, is_first_day, months_to}
+use Rattle.calendar_model.specs.Calendar.{first_day, is_day, is_first_day, last_day, months_to}
 use Rattle.calendar_model.specs.Entries.{MonthEntry, days_of, latest, never_falls}
 use Rattle.calendar_model.proofs.MonthLemmas.{IsInMonth, months_to_is}
 use Rattle.billing_memory.specs.Entries.{entry_view, entries_view, set_day_view, pulses_of}
@@ -19,7 +19,8 @@ use Rattle.billing_memory.specs.declared.entry.Entry.{Entry}
 use Rattle.billing_memory.specs.declared.meter_record.MeterRecord.{MeterRecord}
 use Rattle.energy_register.specs.declared.Register.{Register}
 use Rattle.memory_model.specs.Fields.{first_broken, unless_broken, number, part, are_zero}
-use Rattle.memory_model.specs.Slot.{record_in, record_of, record_fields, month_fields, month_keeps, month_part, month_entry, months_begun, is_entry, entry_of, set_day_keeps, set_day_of, samples_of, months_of, goes_on, ends_right, follows, is_energy_of, is_bound_of}
+use Rattle.memory_model.specs.Slot.{record_in, record_of, record_fields, month_fields, month_keeps, month_part, month_entry, months_begun, is_entry, entry_of, set_day_keeps, set_day_of, samples_of, months_of, goes_on, ends_right, follows}
+use Rattle.metering_model.specs.Limits.{is_bound_of, is_energy_of, max_bound_per_pulse, max_energy_per_pulse, max_events, max_months, max_pulses}
 use Rattle.state_codec.specs.Slot.{head_fields, sample_fields, sum_fields, set_day_fields, entry_bytes, zeros, flag_of, flow_of, return_of, head_bytes, sum_bytes, set_day_bytes, record_bytes}
 use Rattle.state_codec.proofs.Checks.{AllKeep, first_broken-all, first_broken-none}
 use Rattle.state_codec.proofs.Spelling.{written_1, written_2, written_4, written_8, written_16}
@@ -37,10 +38,9 @@ le_true m n le = grind (arith, nat_tests)
 energy_again : (r : Register) → cast_signed w128 (cast_unsigned w128 r.energy_mj) ≡ r.energy_mj
 energy_again r = to_z-of_z w128 r.energy_mj (energy_fits r)
 
-energy_right : (r : Register) → is_energy_of r.pulses (cast_unsigned w128 r.energy_mj) ≡ true
+energy_right : (r : Register) → is_energy_of r.pulses (cast_signed w128 (cast_unsigned w128 r.energy_mj)) ≡ true
 energy_right r =
-    ap (λ z. nat_le (nat_abs z) (2000000000000 * r.pulses)) (energy_again r)
-    ∙ le_true (nat_abs r.energy_mj) (2000000000000 * r.pulses) r.energy_in_range
+    ap (is_energy_of r.pulses) (energy_again r) ∙ le_true (nat_abs r.energy_mj) (max_energy_per_pulse * r.pulses) r.energy_in_range
 
 module _ (e : Entry) where
   abbrev entry_text : List ℕ
@@ -76,9 +76,9 @@ module _ (e : Entry) where
   entry_right : (record_pulses : ℕ) → e.register.pulses ≤ record_pulses → is_entry record_pulses entry_text ≡ true
   unfolding is_entry
   entry_right record_pulses le =
-      let day = ap (λ n. nat_le n 36524 && is_first_day n) day_is ∙ and_from _ _ (le_true e.day.number 36524 e.day.in_century) e.first_of_month in
-      let energy = (λ i. is_energy_of (pulses_is i) (energy_is i)) ∙ energy_right e.register in
-      let bound = (λ i. is_bound_of (pulses_is i) (bound_is i)) ∙ le_true e.register.bound_mj (2000000 * e.register.pulses) e.register.bound_in_range in
+      let day = ap (λ n. is_day n && is_first_day n) day_is ∙ and_from _ _ (le_true e.day.number last_day e.day.in_century) e.first_of_month in
+      let energy = (λ i. is_energy_of (pulses_is i) (cast_signed w128 (energy_is i))) ∙ energy_right e.register in
+      let bound = (λ i. is_bound_of (pulses_is i) (bound_is i)) ∙ le_true e.register.bound_mj (max_bound_per_pulse * e.register.pulses) e.register.bound_in_range in
       let most = ap (λ n. nat_le n record_pulses) pulses_is ∙ le_true e.register.pulses record_pulses le in
       and_from _ _ (and_from _ _ day (and_from _ _ gap_is (and_from _ _ refl (and_from _ _ energy (and_from _ _ bound refl))))) most
 
@@ -327,13 +327,13 @@ module _ (m : MeterRecord) where
 
   head_keeps : AllKeep head_fields text
   head_keeps = (
-    ap (λ n. nat_le n 1000000000000000000) seq_text ∙ le_true m.seq 1000000000000000000 m.seq_in_range,
+    ap (λ n. nat_le n max_events) seq_text ∙ le_true m.seq max_events m.seq_in_range,
     (
-      ap (λ n. nat_le n 36524) day_text ∙ le_true m.day.number 36524 m.day.in_century,
+      ap is_day day_text ∙ le_true m.day.number last_day m.day.in_century,
       (
         ap (λ n. nat_le n 1) samples_text ∙ flag_right m.samples,
         (
-          ap (λ n. nat_le n 24) count_text ∙ le_true (length m.months.items) 24 m.months_kept,
+          ap (λ n. nat_le n max_months) count_text ∙ le_true (length m.months.items) max_months m.months_kept,
           (ap (λ n. nat_le n 1) kept_text ∙ flag_right (set_day_view m.set_day), (gap_text, tt)),
         ),
       ),
@@ -342,13 +342,13 @@ module _ (m : MeterRecord) where
 
   sums_keep : AllKeep sum_fields text
   sums_keep = (
-    ap (λ n. nat_le n 1000000000000000) faulty_text ∙ le_true m.faulty 1000000000000000 (omega (arith, m.faulty_in_range, m.register.pulses_in_range)),
+    ap (λ n. nat_le n max_pulses) faulty_text ∙ le_true m.faulty max_pulses (omega (arith, m.faulty_in_range, m.register.pulses_in_range)),
     (
-      and_from _ _ (ap (λ n. nat_le n 1000000000000000) pulses_text ∙ le_true m.register.pulses 1000000000000000 m.register.pulses_in_range)
+      and_from _ _ (ap (λ n. nat_le n max_pulses) pulses_text ∙ le_true m.register.pulses max_pulses m.register.pulses_in_range)
           ((λ i. nat_le (faulty_text i) (pulses_text i)) ∙ le_true m.faulty m.register.pulses m.faulty_in_range),
       (
-        (λ i. is_energy_of (pulses_text i) (energy_text i)) ∙ energy_right m.register,
-        ((λ i. is_bound_of (pulses_text i) (bound_text i)) ∙ le_true m.register.bound_mj (2000000 * m.register.pulses) m.register.bound_in_range, tt),
+        (λ i. is_energy_of (pulses_text i) (cast_signed w128 (energy_text i))) ∙ energy_right m.register,
+        ((λ i. is_bound_of (pulses_text i) (bound_text i)) ∙ le_true m.register.bound_mj (max_bound_per_pulse * m.register.pulses) m.register.bound_in_range, tt),
       ),
     ),
   )

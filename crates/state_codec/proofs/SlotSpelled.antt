@@ -10,7 +10,8 @@ use Rattle.std.proofs.lemmas.List.{drop_all, replicate-append-replicate}
 use Rattle.std.proofs.lemmas.List.Elements.{All-head, All-tail, All-take, All-drop}
 use Rattle.std.proofs.lemmas.List.FromFn.{length-map-range_with_len}
 use Rattle.metering_model.specs.Records as records
-use Rattle.memory_model.specs.Fields.{AreBytes, little_endian, first_broken, number, part, are_zero, keep_all, blank}
+use Rattle.memory_model.specs.Fields.{little_endian, first_broken, number, part, are_zero, keep_all, blank}
+use Rattle.byte_model.specs.Bytes.{AreBytes}
 use Rattle.memory_model.specs.Slot.{record_in, record_of, record_fields, month_fields, month_part, month_entry, is_entry, entry_of, entry_fields, set_day_keeps, set_day_of, samples_of, months_of, goes_on, ends_right}
 use Rattle.state_codec.specs.Slot.{head_fields, sample_fields, sum_fields, set_day_fields, entry_bytes, zeros, flag_of, flow_of, return_of, head_bytes, sum_bytes, set_day_bytes, record_bytes}
 use Rattle.state_codec.proofs.Numbers.{length-part}

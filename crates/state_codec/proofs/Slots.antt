@@ -1,5 +1,5 @@
 -- The parts of a slot, one after another.
-use Rattle.std.proofs.Common.{◌≡◌, ℕ, ◌<◌, ◌≤◌, inl, inr, true, cond, List, [], ◌∷◌, ◌++◌, length, map, None, Some, Ok, Err, refl, sym, ◌∙◌, ap, subst, arith}
+use Rattle.std.proofs.Common.{◌≡◌, ℕ, ◌<◌, ◌≤◌, inl, inr, true, cond, List, [], ◌∷◌, ◌++◌, length, map, Option, None, Some, Ok, Err, refl, sym, ◌∙◌, ap, subst, arith}
 use Rattle.std.proofs.lemmas.List.{length-map}
 use Rattle.std.specs.Prelude.{nat_le, ◌&&◌, ◌==◌}
 use Rattle.std.proofs.lemmas.Bool.{cases_Bool, and_parts, leb-true}
@@ -10,9 +10,9 @@ use Rattle.calendar_model.specs.Entries.{MonthEntry, days_of, latest, never_fall
 use Rattle.billing_memory.specs.Entries.{entry_view, entries_view, pulses_of}
 use Rattle.billing_memory.specs.declared.entry.Entry.{Entry}
 use Rattle.memory_model.specs.Fields.{Field, first_broken, unless_broken, blank, number, part, are_zero}
-use Rattle.memory_model.specs.Slot.{record_in, record_of, record_fields, month_fields, month_keeps, month_entry, is_entry, entry_of, set_day_keeps, set_day_of}
+use Rattle.memory_model.specs.Slot.{record_in, record_of, record_fields, month_fields, month_keeps, month_entry, is_entry, entry_of, samples_of, set_day_keeps, set_day_of}
 use Rattle.state_codec.specs.Reading.{checked}
-use Rattle.state_codec.specs.Slot.{head_fields, sample_fields, sum_fields, set_day_fields, entries_to}
+use Rattle.state_codec.specs.Slot.{head_fields, head_of, sample_fields, sum_fields, sums_of, set_day_fields, entries_to}
 use Rattle.state_codec.proofs.Checks.{first_broken-none, first_broken-some, checked-ok, checked-err}
 use Rattle.state_codec.proofs.MonthLaws.{month_of_day}
 use Rattle.state_codec.proofs.MonthSteps.{all_months_kept, months_in_row, pulses_in_order, entry_pulses}
@@ -43,6 +43,19 @@ module _ (bytes : List ℕ) where
 
   pub step : {V : Type 0} (fs gs : List Field) (v w : V) → Reaches bytes (fs ++ gs) → checked fs bytes v ≡ Ok w → Reaches bytes gs
   step fs gs v w so_far e = so_far ∙ first_broken-none fs gs bytes (checked-ok (first_broken fs bytes) v w e).0
+
+  -- what is read of the parts that keep their rules, one after another
+  pub after_head : (head : ℕ × ℕ) → checked head_fields bytes (head_of bytes) ≡ Ok head → Reaches bytes from_samples
+  after_head head is_head = step head_fields from_samples (head_of bytes) head begins is_head
+
+  pub after_samples : (head : ℕ × ℕ) (samples : Option (ℕ × ℕ)) → checked head_fields bytes (head_of bytes) ≡ Ok head → checked sample_fields bytes (samples_of bytes) ≡ Ok samples → Reaches bytes from_sums
+  after_samples head samples is_head are_samples = step sample_fields from_sums (samples_of bytes) samples (after_head head is_head) are_samples
+
+  pub after_sums : (head : ℕ × ℕ) (samples : Option (ℕ × ℕ)) (sums : ℕ × records.Register) → checked head_fields bytes (head_of bytes) ≡ Ok head → checked sample_fields bytes (samples_of bytes) ≡ Ok samples → checked sum_fields bytes (sums_of bytes) ≡ Ok sums → Reaches bytes from_set_day
+  after_sums head samples sums is_head are_samples are_sums = step sum_fields from_set_day (sums_of bytes) sums (after_samples head samples is_head are_samples) are_sums
+
+  pub after_set_day : (head : ℕ × ℕ) (samples : Option (ℕ × ℕ)) (sums : ℕ × records.Register) (entry : Option (MonthEntry records.Register)) → checked head_fields bytes (head_of bytes) ≡ Ok head → checked sample_fields bytes (samples_of bytes) ≡ Ok samples → checked sum_fields bytes (sums_of bytes) ≡ Ok sums → checked set_day_fields bytes (set_day_of bytes) ≡ Ok entry → Reaches bytes from_months
+  after_set_day head samples sums entry is_head are_samples are_sums is_entry = step set_day_fields from_months (set_day_of bytes) entry (after_sums head samples sums is_head are_samples are_sums) is_entry
 
   pub broken : (at : ℕ) → first_broken record_fields bytes ≡ Some at → record_in bytes ≡ Err at
   unfolding record_in

@@ -6,7 +6,8 @@ use Rattle.std.proofs.lemmas.Bool.{cases_lt, eqb-true, and_parts}
 use Rattle.std.proofs.lemmas.List.{drop_all, drop_more, drop-drop, take-append-drop, get_or-take, get_or-drop, get_or_past}
 use Rattle.std.proofs.lemmas.List.Elements.{All-get_or}
 use Rattle.std.proofs.lemmas.Nat.{le_bytes_2, le_bytes_4, le_bytes_8, from_le_bytes-to_le_bytes_2, from_le_bytes-to_le_bytes_4, from_le_bytes-to_le_bytes_8}
-use Rattle.memory_model.specs.Fields.{AreBytes, little_endian, part, number, are_zero, first_broken, zero_byte, zero_bytes}
+use Rattle.memory_model.specs.Fields.{little_endian, part, number, are_zero, first_broken, zero_byte, zero_bytes}
+use Rattle.byte_model.specs.Bytes.{AreBytes}
 use Rattle.state_codec.proofs.Checks.{first_broken-kept}
 use Rattle.state_codec.proofs.Numbers.{from_le_bytes_2, from_le_bytes_4, from_le_bytes_8, from_le_bytes_16, length-part, number_1}
 use Rattle.state_codec.proofs.Wide.{le_bytes_16, from_le_bytes-to_le_bytes_16}

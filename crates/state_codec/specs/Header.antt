@@ -2,26 +2,14 @@
 use Rattle.std.specs.Prelude.{ℕ, List, [], ◌∷◌, ◌++◌, replicate, Option, None, Some}
 use Rattle.std.specs.Int.{w16, w32, to_le_bytes}
 use Rattle.config_model.specs.Configuration.{Configuration, both}
-use Rattle.heat_model.specs.Heat as heat
-use Rattle.sensor_pair.specs.Place.{place_view}
+use Rattle.parts_model.specs.Place as model
+use Rattle.meter_parts.specs.Views.{place_view, sensor_ohm}
 use Rattle.platinum_model.specs.Element.{Element}
-use Rattle.pt_curve.specs.Curve.{sensor_ohm}
-use Rattle.memory_model.specs.Fields.{Field, value, zero_byte}
-use Rattle.memory_model.specs.Header.{format_field, serial_field, first_letter_field, second_letter_field, third_letter_field, version_field, address_field, place_field, place_of, pressure_field, sensor_field, litres_field, energy_decimals_field, volume_decimals_field, set_month_field, opening_day_field, calibrated_field, constants_fields, constants_of}
+use Rattle.memory_model.specs.Fields.{value}
+use Rattle.memory_model.specs.Header.{serial_field, first_letter_field, second_letter_field, third_letter_field, version_field, address_field, place_field, place_of, pressure_field, sensor_field, litres_field, energy_decimals_field, volume_decimals_field, set_month_field, opening_day_field, constants_of}
 use Rattle.state_codec.specs.declared.header_parts.Identity.{Identity}
 use Rattle.state_codec.specs.declared.header_parts.Measuring.{Measuring}
 use Rattle.state_codec.specs.declared.header_parts.Billing.{Billing}
-
-abbrev pub identity_fields : List Field
-identity_fields =
-    format_field
-    ∷ serial_field
-    ∷ first_letter_field
-    ∷ second_letter_field
-    ∷ third_letter_field
-    ∷ version_field
-    ∷ address_field
-    ∷ []
 
 abbrev pub identity_of : List ℕ → ℕ × List ℕ × ℕ × ℕ
 identity_of bytes = (
@@ -34,10 +22,7 @@ identity_of bytes = (
 abbrev pub identity_view : Identity → ℕ × List ℕ × ℕ × ℕ
 identity_view x = (x.serial, x.maker, x.version, x.address)
 
-abbrev pub measuring_fields : List Field
-measuring_fields = place_field ∷ pressure_field ∷ sensor_field ∷ litres_field ∷ []
-
-abbrev pub measuring_of : List ℕ → heat.Place × ℕ × ℕ × ℕ
+abbrev pub measuring_of : List ℕ → model.Place × ℕ × ℕ × ℕ
 measuring_of bytes = (
   place_of (value place_field bytes),
   value pressure_field bytes,
@@ -45,11 +30,8 @@ measuring_of bytes = (
   value litres_field bytes,
 )
 
-abbrev pub measuring_view : Measuring → heat.Place × ℕ × ℕ × ℕ
+abbrev pub measuring_view : Measuring → model.Place × ℕ × ℕ × ℕ
 measuring_view x = (place_view x.place, x.pressure_kpa, sensor_ohm x.sensor, x.per_pulse)
-
-abbrev pub billing_fields : List Field
-billing_fields = energy_decimals_field ∷ volume_decimals_field ∷ set_month_field ∷ zero_byte 21 ∷ opening_day_field ∷ []
 
 abbrev pub billing_of : List ℕ → ℕ × ℕ × ℕ × ℕ
 billing_of bytes = (
@@ -62,20 +44,14 @@ billing_of bytes = (
 abbrev pub billing_view : Billing → ℕ × ℕ × ℕ × ℕ
 billing_view x = (x.energy_decimals, x.volume_decimals, x.set_month, x.opening_day.number)
 
-abbrev pub calibrated_fields : List Field
-calibrated_fields = calibrated_field ∷ zero_byte 25 ∷ zero_byte 26 ∷ zero_byte 27 ∷ []
-
-abbrev pub calibration_fields : List Field
-calibration_fields = calibrated_fields ++ (constants_fields 28 ++ constants_fields 40)
-
 abbrev pub calibration_of : List ℕ → Option (Element × Element)
 calibration_of bytes = both (constants_of 28 bytes) (constants_of 40 bytes)
 
 -- ---- a configuration's one spelling
 
-abbrev pub place_code : heat.Place → ℕ
-place_code heat.Flow = 0
-place_code heat.Return = 1
+abbrev pub place_code : model.Place → ℕ
+place_code model.Flow = 0
+place_code model.Return = 1
 
 unfoldable pub identity_bytes : Configuration → List ℕ
 identity_bytes c = 1 ∷ (to_le_bytes w32 c.serial ++ (c.maker ++ c.version ∷ c.address ∷ []))

@@ -1,15 +1,16 @@
 -- The parts of a slot.
-use Rattle.std.specs.Prelude.{◌≡◌, ℕ, ◌*◌, ◌-◌, ◌&&◌, Bool, true, false, nat_le, nat_abs, ℤ, List, [], ◌∷◌, ◌++◌, map, length, replicate, Option, None, Some, Result, Ok, Err}
+use Rattle.std.specs.Prelude.{◌≡◌, ℕ, ◌*◌, ◌-◌, ◌&&◌, Bool, true, false, ℤ, List, [], ◌∷◌, ◌++◌, map, length, replicate, Option, None, Some, Result, Ok, Err}
 use Rattle.std.specs.List.{flat_map, range_with_len}
 use Rattle.std.specs.Int.{w16, w32, w64, w128, to_le_bytes, cast_unsigned}
 use Rattle.calendar_model.specs.Entries.{MonthEntry, last_or}
+use Rattle.metering_model.specs.Limits.{is_bound_of, is_energy_of, max_months}
 use Rattle.metering_model.specs.Records as records
 use Rattle.energy_register.specs.Register.{register_view}
 use Rattle.energy_register.specs.declared.Register.{Register}
 use Rattle.billing_memory.specs.Entries.{entry_view}
 use Rattle.billing_memory.specs.declared.entry.Entry.{Entry}
 use Rattle.memory_model.specs.Fields.{Field, value, blank, signed, first_broken}
-use Rattle.memory_model.specs.Slot.{seq_field, day_field, samples_field, month_count_field, set_day_kept_field, flow_sample_field, return_sample_field, faulty_field, pulses_field, energy_field, bound_field, set_day_field, is_entry, entry_of, month_entry, month_keeps, month_fields, follows}
+use Rattle.memory_model.specs.Slot.{entry_size, seq_field, day_field, samples_field, month_count_field, set_day_kept_field, flow_sample_field, return_sample_field, faulty_field, pulses_field, energy_field, bound_field, set_day_field, is_entry, entry_of, month_entry, month_keeps, month_fields, follows}
 use Rattle.state_codec.specs.declared.foreign.Foreign.{Foreign}
 use Rattle.state_codec.specs.declared.slot_parts.Head.{Head}
 use Rattle.state_codec.specs.declared.slot_parts.Sums.{Sums}
@@ -49,7 +50,7 @@ set_day_fields = set_day_field ∷ []
 
 -- the limits of a register's energy and bound
 abbrev pub is_within : ℕ → ℤ → ℕ → Bool
-is_within pulses energy bound = nat_le (nat_abs energy) (2000000000000 * pulses) && nat_le bound (2000000 * pulses)
+is_within pulses energy bound = is_energy_of pulses energy && is_bound_of pulses bound
 
 abbrev pub ReadsRegister : ℕ → ℤ → ℕ → Option Register → Type 0
 ReadsRegister pulses energy bound (Some r) =
@@ -76,8 +77,8 @@ entries_to count bytes = map (λ k. month_entry k bytes) (range_with_len 0 count
 -- the first `count` month entries are right, and these; or one of them breaks its rule
 abbrev pub ReadsMonths : {Months : Type 0} → (Months → List (MonthEntry records.Register)) → ℕ → List ℕ → Result Months Foreign → Type 0
 ReadsMonths view count bytes (Ok months) =
-    (first_broken (month_fields 0 24) bytes ≡ first_broken (month_fields count (24 - count)) bytes) × (view months ≡ entries_to count bytes)
-ReadsMonths view count bytes (Err f) = first_broken (month_fields 0 24) bytes ≡ Some f.at
+    (first_broken (month_fields 0 max_months) bytes ≡ first_broken (month_fields count (max_months - count)) bytes) × (view months ≡ entries_to count bytes)
+ReadsMonths view count bytes (Err f) = first_broken (month_fields 0 max_months) bytes ≡ Some f.at
 
 -- ---- a record's one spelling
 
@@ -114,9 +115,9 @@ sum_bytes r =
     ++ (to_le_bytes w64 r.register.pulses ++ (to_le_bytes w128 (cast_unsigned w128 r.register.energy_mj) ++ to_le_bytes w128 r.register.bound_mj))))
 
 unfoldable pub set_day_bytes : Option (MonthEntry records.Register) → List ℕ
-set_day_bytes None = zeros 48
+set_day_bytes None = zeros entry_size
 set_day_bytes (Some e) = entry_bytes e
 
 unfoldable pub record_bytes : records.MeterRecord → List ℕ
 record_bytes r =
-    head_bytes r ++ (sum_bytes r ++ (set_day_bytes r.set_day ++ (flat_map entry_bytes r.months ++ zeros (1160 - 48 * length r.months))))
+    head_bytes r ++ (sum_bytes r ++ (set_day_bytes r.set_day ++ (flat_map entry_bytes r.months ++ zeros (1160 - entry_size * length r.months))))

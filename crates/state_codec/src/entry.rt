@@ -1,23 +1,26 @@
-//! Entries of 48 bytes.
+//! Entries in bytes.
 
 ghost use Rattle.std.specs.Prelude.{◌≡◌, ◌≤◌, length};
 ghost use Rattle.std.specs.Int.{IsInRange};
 ghost use Rattle.calendar_model.specs.Calendar.{is_first_day};
 ghost use Rattle.billing_memory.specs.Entries.{entry_view};
-ghost use Rattle.memory_model.specs.Slot.{months_begun};
+ghost use Rattle.metering_model.specs.Limits.{max_pulses};
+ghost use Rattle.memory_model.specs.Slot.{entry_size, months_begun};
 ghost use Rattle.state_codec.specs.Slot.{ReadsRegister, ReadsEntry, entry_bytes};
 
 use crate::fields::{i128_at, is_blank, u16_at, u64_at, u128_at};
-use billing_memory::{Day, Entry};
-use energy_register::Register;
+use billing_memory::{Day, Entry, is_day};
+use energy_register::{Register, is_bound_of, is_energy_of};
+
+/// How many bytes an entry has.
+pub(crate) const ENTRY_SIZE: usize = 48;
 
 /// The register, where its energy and its bound are within their limits for its pulses.
 pub(crate) fn register_of(pulses: u64, energy_mj: i128, bound_mj: u128) -> Option<Register>
-    requires { pulses ≤ 1000000000000000 }
+    requires { pulses ≤ max_pulses }
     ensures { ReadsRegister pulses energy_mj bound_mj result }
 {
-    let most = u128::from(pulses);
-    if energy_mj.unsigned_abs() > 2_000_000_000_000 * most || bound_mj > 2_000_000 * most {
+    if !is_energy_of(pulses, energy_mj) || !is_bound_of(pulses, bound_mj) {
         return None;
     }
     Some(Register {
@@ -42,15 +45,15 @@ fn is_month_start(day: Day) -> bool
     day.month_start().number == day.number
 }
 
-/// The entry in 48 bytes, in a record with so many pulses, and None where it breaks a rule.
+/// The entry in these bytes, in a record with so many pulses, and None where it breaks a rule.
 #[tactic(auto, unfolding(memory_model::specs::Slot::is_entry, memory_model::specs::Slot::entry_of))]
 pub(crate) fn read_entry(bytes: &[u8], record_pulses: u64) -> Option<Entry>
-    requires size { length bytes.now ≡ 48 }
-    requires pulses { record_pulses ≤ 1000000000000000 }
+    requires size { length bytes.now ≡ entry_size }
+    requires pulses { record_pulses ≤ max_pulses }
     ensures { ReadsEntry record_pulses bytes.now result }
 {
     let number = u16_at(bytes, 0);
-    if number > 36_524 {
+    if !is_day(number) {
         return None;
     }
     let day = Day { number };
@@ -64,9 +67,9 @@ pub(crate) fn read_entry(bytes: &[u8], record_pulses: u64) -> Option<Entry>
     }
 }
 
-/// The 48 bytes of an entry.
+/// The bytes of an entry.
 #[tactic(auto, unfolding(crate::specs::Slot::entry_bytes))]
-pub(crate) fn write_entry(entry: &Entry) -> [u8; 48]
+pub(crate) fn write_entry(entry: &Entry) -> [u8; ENTRY_SIZE]
     ensures { result ≡ entry_bytes (entry_view entry.now) }
 {
     let d = entry.day.number.to_le_bytes();

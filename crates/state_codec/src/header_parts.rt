@@ -3,11 +3,10 @@
 ghost use Rattle.std.specs.Prelude.{◌≤◌, IsTrue};
 ghost use Rattle.std.specs.List.{list_all};
 ghost use Rattle.std.specs.Int.{IsInRange};
-ghost use Rattle.config_model.specs.Configuration.{is_capital, is_pulse};
+ghost use Rattle.parts_model.specs.Ranges.{is_capital, is_pulse, last_month, max_address, max_decimals, max_pressure_kpa, max_serial, min_pressure_kpa};
 
 use billing_memory::Day;
-use pt_curve::Sensor;
-use sensor_pair::Place;
+use meter_parts::{Place, Sensor};
 
 /// Which meter it is.
 #[derive(Clone, Copy)]
@@ -16,9 +15,9 @@ pub(crate) struct Identity {
     pub maker: [u8; 3],
     pub version: u8,
     pub address: u8,
-    pub ghost serial_in_range: { serial ≤ 99999999 },
+    pub ghost serial_in_range: { serial ≤ max_serial },
     pub ghost maker_in_range: { IsTrue (list_all is_capital maker) },
-    pub ghost address_in_range: { address ≤ 250 },
+    pub ghost address_in_range: { address ≤ max_address },
 }
 
 /// How it measures.
@@ -28,7 +27,7 @@ pub(crate) struct Measuring {
     pub pressure_kpa: u16,
     pub sensor: Sensor,
     pub per_pulse: u16,
-    pub ghost pressure_in_range: { IsInRange 1100 4000 pressure_kpa },
+    pub ghost pressure_in_range: { IsInRange min_pressure_kpa max_pressure_kpa pressure_kpa },
     pub ghost per_pulse_in_range: { IsTrue (is_pulse per_pulse) },
 }
 
@@ -39,7 +38,7 @@ pub(crate) struct Billing {
     pub volume_decimals: u8,
     pub set_month: u8,
     pub opening_day: Day,
-    pub ghost energy_decimals_in_range: { energy_decimals ≤ 3 },
-    pub ghost volume_decimals_in_range: { volume_decimals ≤ 3 },
-    pub ghost set_month_in_range: { IsInRange 1 12 set_month },
+    pub ghost energy_decimals_in_range: { energy_decimals ≤ max_decimals },
+    pub ghost volume_decimals_in_range: { volume_decimals ≤ max_decimals },
+    pub ghost set_month_in_range: { IsInRange 1 last_month set_month },
 }

@@ -1,28 +1,32 @@
-//! The header's 256 bytes, read.
+//! The header, read.
 
 ghost use Rattle.std.specs.Prelude.{◌≡◌, ◌+◌, ◌≤◌, IfOk, IfSome, IsTrue, None, false, true, length, option_map, slice_index};
 ghost use Rattle.platinum_model.specs.Calibration.{fits};
 ghost use Rattle.config_model.specs.Configuration.{is_calibration};
-ghost use Rattle.pt_curve.specs.Curve.{constants, nominal_r0, sensor_ohm};
-ghost use Rattle.meter_config.specs.Views.{calibration_view, config_view};
+ghost use Rattle.meter_parts.specs.Views.{calibration_view, constants, nominal_r0, sensor_ohm};
+ghost use Rattle.meter_config.specs.Views.{config_view};
 ghost use Rattle.memory_model.specs.Fields.{value, zero_bytes};
-ghost use Rattle.memory_model.specs.Header.{are_calibrated, constants_fields, constants_of, header_in, sensor_field};
+ghost use Rattle.memory_model.specs.Header.{are_calibrated, billing_fields, calibrated_fields, calibration_fields, constants_fields, constants_of, header_in, header_size, identity_fields, measuring_fields, sensor_field};
 ghost use Rattle.state_codec.specs.Reading.{Gives, Passes, checked};
-ghost use Rattle.state_codec.specs.Header.{identity_fields, identity_view, identity_of, measuring_fields, measuring_view, measuring_of, billing_fields, billing_view, billing_of, calibrated_fields, calibration_fields, calibration_of};
+ghost use Rattle.state_codec.specs.Header.{identity_view, identity_of, measuring_view, measuring_of, billing_view, billing_of, calibration_of};
 
 use crate::Foreign;
 use crate::fields::{u8_at, u16_at, u32_at};
 use crate::header_parts::{Billing, Identity, Measuring};
-use billing_memory::Day;
+use billing_memory::{Day, is_day};
 use meter_config::Config;
-use pt_curve::{Cal, Sensor};
-use sensor_pair::Place;
+use meter_parts::{
+    Cal, Place, Sensor, is_address, is_decimals, is_pressure, is_pulse, is_serial, is_set_month,
+};
 
-/// The configuration that the first 256 bytes of a memory hold. Byte 0 is the mark A5.
+/// How many bytes of a memory its header has, from byte 0 on.
+pub const HEADER_SIZE: usize = 256;
+
+/// The configuration that the header of a memory holds. Byte 0 is the mark A5.
 ///
 /// # Errors
 /// [`Foreign`] with the offset of the first field that breaks its rule.
-pub fn decode_header(bytes: &[u8; 256]) -> Result<Config, Foreign>
+pub fn decode_header(bytes: &[u8; HEADER_SIZE]) -> Result<Config, Foreign>
     requires { slice_index bytes.now 0 ≡ 165 }
     ensures { Gives config_view result (header_in bytes.now) }
 {
@@ -30,7 +34,7 @@ pub fn decode_header(bytes: &[u8; 256]) -> Result<Config, Foreign>
 }
 
 fn read_header(bytes: &[u8]) -> Result<Config, Foreign>
-    requires { length bytes.now ≡ 256 }
+    requires { length bytes.now ≡ header_size }
     ensures { Gives config_view result (header_in bytes.now) }
 {
     let identity = read_identity(bytes)?;
@@ -57,14 +61,14 @@ fn read_header(bytes: &[u8]) -> Result<Config, Foreign>
 }
 
 fn read_identity(bytes: &[u8]) -> Result<Identity, Foreign>
-    requires { length bytes.now ≡ 256 }
+    requires { length bytes.now ≡ header_size }
     ensures { Gives identity_view result (checked identity_fields bytes.now (identity_of bytes.now)) }
 {
     if u8_at(bytes, 1) % 2 != 1 {
         return Err(Foreign { at: 1 });
     }
     let serial = u32_at(bytes, 2);
-    if serial > 99_999_999 {
+    if !is_serial(serial) {
         return Err(Foreign { at: 2 });
     }
     let maker = [u8_at(bytes, 6), u8_at(bytes, 7), u8_at(bytes, 8)];
@@ -78,7 +82,7 @@ fn read_identity(bytes: &[u8]) -> Result<Identity, Foreign>
         return Err(Foreign { at: 8 });
     }
     let address = u8_at(bytes, 10);
-    if address > 250 {
+    if !is_address(address) {
         return Err(Foreign { at: 10 });
     }
     Ok(Identity {
@@ -90,7 +94,7 @@ fn read_identity(bytes: &[u8]) -> Result<Identity, Foreign>
 }
 
 fn read_measuring(bytes: &[u8]) -> Result<Measuring, Foreign>
-    requires { length bytes.now ≡ 256 }
+    requires { length bytes.now ≡ header_size }
     ensures { Gives measuring_view result (checked measuring_fields bytes.now (measuring_of bytes.now)) }
 {
     let place = match u8_at(bytes, 11) {
@@ -99,17 +103,14 @@ fn read_measuring(bytes: &[u8]) -> Result<Measuring, Foreign>
         _ => return Err(Foreign { at: 11 }),
     };
     let pressure_kpa = u16_at(bytes, 12);
-    if pressure_kpa < 1_100 || pressure_kpa > 4_000 {
+    if !is_pressure(pressure_kpa) {
         return Err(Foreign { at: 12 });
     }
-    let sensor = match u16_at(bytes, 14) {
-        100 => Sensor::Pt100,
-        500 => Sensor::Pt500,
-        1_000 => Sensor::Pt1000,
-        _ => return Err(Foreign { at: 14 }),
+    let Some(sensor) = Sensor::of_ohm(u64::from(u16_at(bytes, 14))) else {
+        return Err(Foreign { at: 14 });
     };
     let per_pulse = u16_at(bytes, 16);
-    if !matches!(per_pulse, 1 | 10 | 100 | 1_000) {
+    if !is_pulse(u64::from(per_pulse)) {
         return Err(Foreign { at: 16 });
     }
     Ok(Measuring {
@@ -121,26 +122,26 @@ fn read_measuring(bytes: &[u8]) -> Result<Measuring, Foreign>
 }
 
 fn read_billing(bytes: &[u8]) -> Result<Billing, Foreign>
-    requires { length bytes.now ≡ 256 }
+    requires { length bytes.now ≡ header_size }
     ensures { Gives billing_view result (checked billing_fields bytes.now (billing_of bytes.now)) }
 {
     let energy_decimals = u8_at(bytes, 18);
-    if energy_decimals > 3 {
+    if !is_decimals(energy_decimals) {
         return Err(Foreign { at: 18 });
     }
     let volume_decimals = u8_at(bytes, 19);
-    if volume_decimals > 3 {
+    if !is_decimals(volume_decimals) {
         return Err(Foreign { at: 19 });
     }
     let set_month = u8_at(bytes, 20);
-    if set_month < 1 || set_month > 12 {
+    if !is_set_month(set_month) {
         return Err(Foreign { at: 20 });
     }
     if u8_at(bytes, 21) != 0 {
         return Err(Foreign { at: 21 });
     }
     let number = u16_at(bytes, 22);
-    if number > 36_524 {
+    if !is_day(number) {
         return Err(Foreign { at: 22 });
     }
     Ok(Billing {
@@ -153,7 +154,7 @@ fn read_billing(bytes: &[u8]) -> Result<Billing, Foreign>
 
 // The constants of both sensors, where they are calibrated.
 fn read_calibration(bytes: &[u8], sensor: Sensor) -> Result<Option<(Cal, Cal)>, Foreign>
-    requires size { length bytes.now ≡ 256 }
+    requires size { length bytes.now ≡ header_size }
     requires sensor { value sensor_field bytes.now ≡ sensor_ohm sensor }
     ensures said { Gives calibration_view result (checked calibration_fields bytes.now (calibration_of bytes.now)) }
     ensures fits { IfOk result (λ cal. IsTrue (is_calibration (sensor_ohm sensor) (calibration_view cal))) }
@@ -168,7 +169,7 @@ fn read_calibration(bytes: &[u8], sensor: Sensor) -> Result<Option<(Cal, Cal)>, 
 }
 
 fn read_calibrated(bytes: &[u8]) -> Result<bool, Foreign>
-    requires { length bytes.now ≡ 256 }
+    requires { length bytes.now ≡ header_size }
     ensures { Gives (λ b. b) result (checked calibrated_fields bytes.now (are_calibrated bytes.now)) }
 {
     let calibrated = match u8_at(bytes, 24) {
@@ -195,8 +196,8 @@ fn read_cal(
     calibrated: bool,
     sensor: Sensor,
 ) -> Result<Option<Cal>, Foreign>
-    requires size { length bytes.now ≡ 256 }
-    requires place { at + 12 ≤ 256 }
+    requires size { length bytes.now ≡ header_size }
+    requires place { at + 12 ≤ header_size }
     requires calibrated { are_calibrated bytes.now ≡ calibrated }
     requires sensor { value sensor_field bytes.now ≡ sensor_ohm sensor }
     ensures said { Gives (option_map constants) result (checked (constants_fields at) bytes.now (constants_of at bytes.now)) }
@@ -211,8 +212,8 @@ fn read_cal(
 
 #[tactic(auto, unfolding(memory_model::specs::Header::constants_of))]
 fn read_constants(bytes: &[u8], at: usize, sensor: Sensor) -> Result<Option<Cal>, Foreign>
-    requires size { length bytes.now ≡ 256 }
-    requires place { at + 12 ≤ 256 }
+    requires size { length bytes.now ≡ header_size }
+    requires place { at + 12 ≤ header_size }
     requires calibrated { are_calibrated bytes.now ≡ true }
     requires sensor { value sensor_field bytes.now ≡ sensor_ohm sensor }
     ensures said { Gives (option_map constants) result (checked (constants_fields at) bytes.now (constants_of at bytes.now)) }
@@ -243,8 +244,8 @@ fn read_constants(bytes: &[u8], at: usize, sensor: Sensor) -> Result<Option<Cal>
 
 #[tactic(auto, unfolding(memory_model::specs::Header::constants_of))]
 fn read_no_constants(bytes: &[u8], at: usize) -> Result<Option<Cal>, Foreign>
-    requires size { length bytes.now ≡ 256 }
-    requires place { at + 12 ≤ 256 }
+    requires size { length bytes.now ≡ header_size }
+    requires place { at + 12 ≤ header_size }
     requires calibrated { are_calibrated bytes.now ≡ false }
     ensures said { Gives (option_map constants) result (checked (constants_fields at) bytes.now (constants_of at bytes.now)) }
     ensures none { IfOk result (λ cal. cal ≡ None) }
@@ -269,10 +270,10 @@ fn read_no_constants(bytes: &[u8], at: usize) -> Result<Option<Cal>, Foreign>
 
 // The bytes from 52 on are 0.
 fn check_blank(bytes: &[u8]) -> Result<(), Foreign>
-    requires { length bytes.now ≡ 256 }
+    requires { length bytes.now ≡ header_size }
     ensures { Passes (zero_bytes 52 204) bytes.now result }
 {
-    for at in 52..256 {
+    for at in 52..HEADER_SIZE {
         if u8_at(bytes, at) != 0 {
             return Err(Foreign { at: at as u32 });
         }

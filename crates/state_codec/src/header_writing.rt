@@ -1,17 +1,15 @@
 //! The header's bytes, written.
 
 ghost use Rattle.std.specs.Prelude.{◌≡◌, ℕ, List, ◌∷◌, length, drop, Ok};
-ghost use Rattle.sensor_pair.specs.Place.{place_view};
-ghost use Rattle.pt_curve.specs.Curve.{constants, sensor_ohm};
-ghost use Rattle.meter_config.specs.Views.{calibration_view, config_view};
-ghost use Rattle.memory_model.specs.Fields.{AreBytes};
-ghost use Rattle.memory_model.specs.Header.{header_in};
+ghost use Rattle.meter_parts.specs.Views.{calibration_view, constants, place_view, sensor_ohm};
+ghost use Rattle.meter_config.specs.Views.{config_view};
+ghost use Rattle.byte_model.specs.Bytes.{AreBytes};
+ghost use Rattle.memory_model.specs.Header.{header_in, header_size};
 ghost use Rattle.state_codec.specs.Header.{place_code, identity_bytes, measuring_bytes, billing_bytes, settings_bytes, constants_bytes, calibration_bytes};
 
 use crate::fields::fill_front;
 use meter_config::Config;
-use pt_curve::{Cal, Sensor};
-use sensor_pair::Place;
+use meter_parts::{Cal, Place, Sensor};
 
 /// The bytes 1 to 255 of a memory with this configuration, to stand behind the mark A5.
 ///
@@ -19,7 +17,7 @@ use sensor_pair::Place;
 /// reads as this configuration, all but byte 1 are those that are written here.
 pub fn encode_header(c: &Config) -> [u8; 255]
     ensures read_again { header_in (165 ∷ result) ≡ Ok (config_view c.now) }
-    ensures one_spelling { (bytes : List ℕ) → AreBytes bytes → length bytes ≡ 256
+    ensures one_spelling { (bytes : List ℕ) → AreBytes bytes → length bytes ≡ header_size
         → header_in bytes ≡ Ok (config_view c.now) → drop 1 result ≡ drop 2 bytes }
 {
     let mut out = [0; 255];

@@ -14,7 +14,7 @@ mod slot_writing;
 mod tests;
 
 pub use foreign::Foreign;
-pub use header_reading::decode_header;
+pub use header_reading::{HEADER_SIZE, decode_header};
 pub use header_writing::encode_header;
-pub use slot_reading::decode_record;
+pub use slot_reading::{SLOT_SIZE, decode_record};
 pub use slot_writing::encode_record;

@@ -1,6 +1,7 @@
 //! The first parts of a record, as they follow each other in a slot.
 
 ghost use Rattle.std.specs.Prelude.{◌≤◌};
+ghost use Rattle.metering_model.specs.Limits.{max_events};
 
 use billing_memory::Day;
 use energy_register::Register;
@@ -10,7 +11,7 @@ use energy_register::Register;
 pub(crate) struct Head {
     pub seq: u64,
     pub day: Day,
-    pub ghost seq_in_range: { seq ≤ 1000000000000000000 },
+    pub ghost seq_in_range: { seq ≤ max_events },
 }
 
 /// What it has counted.

@@ -1,23 +1,24 @@
-//! The 1,280 bytes of a slot, written.
+//! A slot, written.
 
 ghost use Rattle.std.specs.Prelude.{◌≡◌, ℕ, List, ◌+◌, ◌*◌, ◌≤◌, ◌<◌, ◌^◌, ◌++◌, length, take, drop, map, replicate, Ok};
 ghost use Rattle.std.specs.List.{flat_map};
 ghost use Rattle.billing_memory.specs.Entries.{entries_view, set_day_view};
 ghost use Rattle.billing_memory.specs.Records.{record_view};
-ghost use Rattle.memory_model.specs.Fields.{AreBytes};
-ghost use Rattle.memory_model.specs.Slot.{record_in};
+ghost use Rattle.byte_model.specs.Bytes.{AreBytes};
+ghost use Rattle.memory_model.specs.Slot.{entry_size, record_in, slot_size};
 ghost use Rattle.state_codec.specs.Slot.{entry_bytes, head_bytes, sum_bytes, set_day_bytes, zeros, flow_of, return_of};
 
-use crate::entry::write_entry;
+use crate::SLOT_SIZE;
+use crate::entry::{ENTRY_SIZE, write_entry};
 use crate::fields::fill_front;
 use billing_memory::{Entry, MeterRecord};
 
 /// The bytes of a slot with this record.
 ///
 /// [`decode_record`](crate::decode_record) reads the same record again, from these bytes and from no others.
-pub fn encode_record(m: &MeterRecord) -> [u8; 1280]
+pub fn encode_record(m: &MeterRecord) -> [u8; SLOT_SIZE]
     ensures read_again { record_in result ≡ Ok (record_view m.now) }
-    ensures one_spelling { (bytes : List ℕ) → AreBytes bytes → length bytes ≡ 1280
+    ensures one_spelling { (bytes : List ℕ) → AreBytes bytes → length bytes ≡ slot_size
         → record_in bytes ≡ Ok (record_view m.now) → result ≡ bytes }
 {
     let mut out = blank_slot();
@@ -27,10 +28,10 @@ pub fn encode_record(m: &MeterRecord) -> [u8; 1280]
 }
 
 #[tactic(auto, unfolding(crate::specs::Slot::zeros))]
-fn blank_slot() -> [u8; 1280]
-    ensures { result ≡ zeros 1280 }
+fn blank_slot() -> [u8; SLOT_SIZE]
+    ensures { result ≡ zeros slot_size }
 {
-    [0; 1280]
+    [0; SLOT_SIZE]
 }
 
 #[tactic(auto, unfolding(crate::specs::Slot::head_bytes))]
@@ -85,12 +86,12 @@ fn write_sums(m: &MeterRecord) -> [u8; 56]
 }
 
 #[tactic(auto, unfolding(crate::specs::Slot::set_day_bytes, crate::specs::Slot::zeros))]
-fn write_set_day(m: &MeterRecord) -> [u8; 48]
+fn write_set_day(m: &MeterRecord) -> [u8; ENTRY_SIZE]
     ensures { result ≡ set_day_bytes (set_day_view m.now.set_day) }
 {
     match &m.set_day {
         Some(entry) => write_entry(entry),
-        None => [0; 48],
+        None => [0; ENTRY_SIZE],
     }
 }
 
@@ -103,11 +104,11 @@ fn put_at(out: &mut [u8], at: usize, part: &[u8])
 
 // Writes entries one after another.
 fn write_entries(out: &mut [u8], at: usize, entries: &[Entry])
-    requires { at + 48 * length entries.now ≤ length out.old }
+    requires { at + entry_size * length entries.now ≤ length out.old }
     ensures { out.new ≡ take at out.old ++ (flat_map entry_bytes (entries_view entries.now)
-        ++ drop (at + 48 * length entries.now) out.old) }
+        ++ drop (at + entry_size * length entries.now) out.old) }
 {
     for (k, entry) in entries.iter().enumerate() {
-        put_at(out, at + 48 * k, &write_entry(entry));
+        put_at(out, at + ENTRY_SIZE * k, &write_entry(entry));
     }
 }

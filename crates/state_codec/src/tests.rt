@@ -4,7 +4,7 @@ use crate::*;
 use billing_memory::{Day, MeterRecord};
 use energy_register::Step;
 use meter_config::Config;
-use pt_curve::Cal;
+use meter_parts::Cal;
 use std::test::Fail;
 
 // The fields of the standard configuration, behind the mark.

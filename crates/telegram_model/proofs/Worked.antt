@@ -1,30 +1,12 @@
 -- Telegrams of a meter with the serial number 12345678, worked by hand.
 use Rattle.std.proofs.Common.{◌≡◌, ℕ, List, [], ◌∷◌, pos, None, Some, ap, refl}
 use Rattle.std.specs.Option.{option_map}
-use Rattle.heat_model.specs.Heat.{Return}
-use Rattle.config_model.specs.Configuration.{Configuration}
+use Rattle.config_model.specs.Standard.{standard}
 use Rattle.metering_model.specs.Records.{Register, MeterRecord}
 use Rattle.frame_model.specs.Frames.{frame_bytes}
 use Rattle.telegram_model.specs.Values.{information, decimal_bytes, integer_bytes, type_g}
 use Rattle.telegram_model.proofs.Dates.{january, february}
 use Rattle.telegram_model.specs.Telegram.{telegram, header, energy_record, volume_record, date_record, temp_records, entry_records, set_day_records, records_of, first_records}
-
-abbrev pub configuration : Configuration
-configuration = record {
-  serial = 12345678;
-  maker = 65 ∷ 66 ∷ 67 ∷ [];
-  version = 1;
-  address = 1;
-  place = Return;
-  pressure_kpa = 1600;
-  sensor_ohm = 500;
-  litres_per_pulse = 10;
-  energy_decimals = 0;
-  volume_decimals = 2;
-  set_month = 1;
-  opening_day = 8780;
-  calibration = None;
-}
 
 -- three pulses, with no samples in force
 abbrev pub register : Register
@@ -66,15 +48,15 @@ of_month : date_record 2 8797 ≡ 130 ∷ 1 ∷ 108 ∷ 1 ∷ 50 ∷ []
 unfolding date_record
 of_month = ap (λ (l : List ℕ). 130 ∷ 1 ∷ 108 ∷ l) february
 
-pub without_months : option_map frame_bytes (telegram configuration before 0 0) ≡ Some (104 ∷ 31 ∷ 31 ∷ 104 ∷ 8 ∷ 1 ∷ 114 ∷ 120 ∷ 86 ∷ 52 ∷ 18 ∷ 67 ∷ 4 ∷ 1 ∷ 4 ∷ 0 ∷ 0 ∷ 0 ∷ 0 ∷ 12 ∷ 6 ∷ 0 ∷ 0 ∷ 0 ∷ 0 ∷ 12 ∷ 20 ∷ 3 ∷ 0 ∷ 0 ∷ 0 ∷ 2 ∷ 108 ∷ 15 ∷ 49 ∷ 190 ∷ 22 ∷ [])
+pub without_months : option_map frame_bytes (telegram standard before 0 0) ≡ Some (104 ∷ 31 ∷ 31 ∷ 104 ∷ 8 ∷ 1 ∷ 114 ∷ 120 ∷ 86 ∷ 52 ∷ 18 ∷ 67 ∷ 4 ∷ 1 ∷ 4 ∷ 0 ∷ 0 ∷ 0 ∷ 0 ∷ 12 ∷ 6 ∷ 0 ∷ 0 ∷ 0 ∷ 0 ∷ 12 ∷ 20 ∷ 3 ∷ 0 ∷ 0 ∷ 0 ∷ 2 ∷ 108 ∷ 15 ∷ 49 ∷ 190 ∷ 22 ∷ [])
 unfolding telegram header energy_record volume_record entry_records first_records decimal_bytes
 without_months = rw on_15 refl
 
-with_months : option_map frame_bytes (telegram configuration after 0 0) ≡ Some (104 ∷ 32 ∷ 32 ∷ 104 ∷ 8 ∷ 1 ∷ 114 ∷ 120 ∷ 86 ∷ 52 ∷ 18 ∷ 67 ∷ 4 ∷ 1 ∷ 4 ∷ 0 ∷ 0 ∷ 0 ∷ 0 ∷ 12 ∷ 6 ∷ 0 ∷ 0 ∷ 0 ∷ 0 ∷ 12 ∷ 20 ∷ 3 ∷ 0 ∷ 0 ∷ 0 ∷ 2 ∷ 108 ∷ 1 ∷ 50 ∷ 31 ∷ 208 ∷ 22 ∷ [])
+with_months : option_map frame_bytes (telegram standard after 0 0) ≡ Some (104 ∷ 32 ∷ 32 ∷ 104 ∷ 8 ∷ 1 ∷ 114 ∷ 120 ∷ 86 ∷ 52 ∷ 18 ∷ 67 ∷ 4 ∷ 1 ∷ 4 ∷ 0 ∷ 0 ∷ 0 ∷ 0 ∷ 12 ∷ 6 ∷ 0 ∷ 0 ∷ 0 ∷ 0 ∷ 12 ∷ 20 ∷ 3 ∷ 0 ∷ 0 ∷ 0 ∷ 2 ∷ 108 ∷ 1 ∷ 50 ∷ 31 ∷ 208 ∷ 22 ∷ [])
 unfolding telegram header energy_record volume_record entry_records first_records decimal_bytes
 with_months = rw on_1 refl
 
-months : option_map frame_bytes (telegram configuration after 1 1) ≡ Some (104 ∷ 34 ∷ 34 ∷ 104 ∷ 8 ∷ 1 ∷ 114 ∷ 120 ∷ 86 ∷ 52 ∷ 18 ∷ 67 ∷ 4 ∷ 1 ∷ 4 ∷ 1 ∷ 0 ∷ 0 ∷ 0 ∷ 130 ∷ 1 ∷ 108 ∷ 1 ∷ 50 ∷ 140 ∷ 1 ∷ 6 ∷ 0 ∷ 0 ∷ 0 ∷ 0 ∷ 140 ∷ 1 ∷ 20 ∷ 3 ∷ 0 ∷ 0 ∷ 0 ∷ 53 ∷ 22 ∷ [])
+months : option_map frame_bytes (telegram standard after 1 1) ≡ Some (104 ∷ 34 ∷ 34 ∷ 104 ∷ 8 ∷ 1 ∷ 114 ∷ 120 ∷ 86 ∷ 52 ∷ 18 ∷ 67 ∷ 4 ∷ 1 ∷ 4 ∷ 1 ∷ 0 ∷ 0 ∷ 0 ∷ 130 ∷ 1 ∷ 108 ∷ 1 ∷ 50 ∷ 140 ∷ 1 ∷ 6 ∷ 0 ∷ 0 ∷ 0 ∷ 0 ∷ 140 ∷ 1 ∷ 20 ∷ 3 ∷ 0 ∷ 0 ∷ 0 ∷ 53 ∷ 22 ∷ [])
 unfolding telegram header energy_record volume_record entry_records first_records decimal_bytes
 months = rw of_month refl
 
@@ -83,7 +65,7 @@ unfolding date_record
 on_set_day = ap (λ (l : List ℕ). 66 ∷ 108 ∷ l) february
 
 -- the entry of a set day
-kept_day : set_day_records configuration (Some (record { day = 8797; register = register })) ≡ 66 ∷ 108 ∷ 1 ∷ 50 ∷ 76 ∷ 6 ∷ 0 ∷ 0 ∷ 0 ∷ 0 ∷ 76 ∷ 20 ∷ 3 ∷ 0 ∷ 0 ∷ 0 ∷ []
+kept_day : set_day_records standard (Some (record { day = 8797; register = register })) ≡ 66 ∷ 108 ∷ 1 ∷ 50 ∷ 76 ∷ 6 ∷ 0 ∷ 0 ∷ 0 ∷ 0 ∷ 76 ∷ 20 ∷ 3 ∷ 0 ∷ 0 ∷ 0 ∷ []
 unfolding energy_record volume_record entry_records decimal_bytes
 kept_day = rw on_set_day refl
 
@@ -93,7 +75,7 @@ of_next_month = ap (λ (l : List ℕ). 194 ∷ 1 ∷ 108 ∷ l) february
 
 -- two month entries: the newest, which is the last in the record, comes first
 two_months : records_of
-    configuration
+    standard
     (record {
       seq = 2;
       day = 8797;
@@ -109,11 +91,11 @@ unfolding energy_record volume_record entry_records decimal_bytes
 two_months = rw (of_month, of_next_month) refl
 
 -- there is no third telegram, and no second without month entries
-no_third : telegram configuration after 2 0 ≡ None
+no_third : telegram standard after 2 0 ≡ None
 unfolding telegram
 no_third = refl
 
-no_second : telegram configuration before 1 0 ≡ None
+no_second : telegram standard before 1 0 ≡ None
 unfolding telegram
 no_second = refl
 

@@ -2,12 +2,13 @@
 use Rattle.std.specs.Prelude.{ℕ, zero, suc, ◌+◌, ◌-◌, ◌*◌, ◌/◌, cond, if◌then◌else◌, nat_lt, nat_le, pos, ◌-ℤ◌, ℤ, List, [], ◌∷◌, ◌++◌, length, take, drop, reverse, Option, None, Some}
 use Rattle.std.specs.Int.{w16, to_le_bytes}
 use Rattle.std.specs.List.{fold}
-use Rattle.heat_model.specs.Heat.{Place, Flow, Return}
+use Rattle.parts_model.specs.Place.{Place, Flow, Return}
 use Rattle.platinum_model.specs.Element.{Element}
 use Rattle.calendar_model.specs.Entries.{MonthEntry}
 use Rattle.display_model.specs.Display.{shown_digits, energy_unit, volume_unit}
 use Rattle.config_model.specs.Configuration.{Configuration, flow_element, return_element}
 use Rattle.metering_model.specs.Counting.{is_in_range, whole_temp}
+use Rattle.metering_model.specs.Limits.{max_months}
 use Rattle.metering_model.specs.Records.{Register, MeterRecord}
 use Rattle.frame_model.specs.Frames.{Frame, Ack, Short, Long}
 use Rattle.telegram_model.specs.Values.{information, decimal_bytes, integer_bytes, thousandths, date_bytes}
@@ -91,7 +92,7 @@ records_from c storage (e ∷ es) = entry_records c storage e ++ records_from c 
 
 -- the newest 24 month entries, from the newest on
 abbrev pub newest : MeterRecord → List (MonthEntry Register)
-newest m = take 24 (reverse m.months)
+newest m = take max_months (reverse m.months)
 
 -- what the meter shows, its temperatures, its day and the entry of its set day
 unfoldable pub first_records : Configuration → MeterRecord → List ℕ

@@ -2,6 +2,10 @@
 use Rattle.std.specs.Prelude.{◌≡◌, ℕ, ◌+◌, ◌<◌, Bool, false, ◌&&◌, ◌||◌, nat_le, nat_lt, List, [], ◌∷◌, ◌++◌, length, take, drop, slice_index}
 use Rattle.trace_model.specs.Trace.{Store, Sync, Missed, Put, Arm, Cut, Trace, Start, ◌▷◌}
 
+-- the bytes of a memory
+abbrev pub memory_size : ℕ
+memory_size = 16384
+
 -- bytes, and the place from which on they were stored
 pub record Range : Type 0 where
   pub at : ℕ
@@ -53,8 +57,8 @@ is_covered (r ∷ rs) place = is_within r.at (length r.bytes) place || is_covere
 
 -- what the memory may hold: the settled bytes, but any bytes in the ranges that are pending
 pub record IsImage (t : Trace) (image : List ℕ) : Type 0 where
-  pub size : length image ≡ 16384
-  pub same : (place : ℕ) → place < 16384 → is_covered (pending t) place ≡ false → slice_index image place ≡ slice_index (settled t) place
+  pub size : length image ≡ memory_size
+  pub same : (place : ℕ) → place < memory_size → is_covered (pending t) place ≡ false → slice_index image place ≡ slice_index (settled t) place
 
 -- alike but for the n places from at on
 pub record SameOutside (at n : ℕ) (old new : List ℕ) : Type 0 where

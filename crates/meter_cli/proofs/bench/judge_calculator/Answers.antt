@@ -1,7 +1,7 @@
 use Rattle.std.proofs.Common.{subst}
 use Rattle.heat_model.specs.Heat.{LiesBetween, litre_energy}
 use Rattle.pt_curve.specs.Curve.{element}
-use Rattle.sensor_pair.specs.Place.{place_view}
+use Rattle.meter_parts.specs.Views.{place_view}
 use Rattle.meter_cli.proofs.Benches.{calculator_judged, litre_near}
 use Rattle.meter_cli.proofs.bench.judge_calculator.Goals as goal
 

@@ -13,4 +13,4 @@ returns-clause-text c =
 
 pub returns-in_default-cell-clause-text : goal.returns-in_default-cell-clause-text
 returns-in_default-cell-clause-text c =
-    inl (inr (λ inside. let wrong : false ≡ true = c.in_default-cell.ensures.in_range.1 (subst (λ e. IsInRange e c.args.test.rr) (sym c.nominal-curve.ensures) inside) in cc), c.word_line-in_default-cell.ensures)
+    inl (inr (λ inside. let wrong : false ≡ true = c.in_default-cell.ensures.in_range.1 (subst (λ e. IsInRange e c.args.test.rr) (sym c.nominal-curve.ensures) inside) in cc), c.ended-in_default-cell.ensures.text)

@@ -11,5 +11,5 @@ invariant-loop-segment g l = record {
   goes_on : g.B.Board.tells → (new : Trace) (status : Status) → CertFrom l.p_kpa l.segment (g.B.Board.trace l.board) new status → CertFrom l.p_kpa 0 (g.B.Board.trace l.fn.board) new status;
   rising : RisesBelow l.p_kpa l.segment;
   memory_untouched : g.B.Board.memory_calls l.board ≡ g.B.Board.memory_calls l.fn.board;
-  later : g.B.Board.output_faults l.fn.board ≤ g.B.Board.output_faults l.board;
+  later : (g.B.Board.faults l.fn.board).output ≤ (g.B.Board.faults l.board).output;
 }

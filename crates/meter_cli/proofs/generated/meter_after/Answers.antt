@@ -1,9 +1,9 @@
 use Rattle.std.proofs.Common.{◌≡◌, ◌+◌, None, refl, subst, sym, ap, ◌∙◌, arith}
 use Rattle.metering_model.specs.Events.{Event}
 use Rattle.metering_model.specs.Settings.{Settings}
-use Rattle.metering_model.specs.Integral.{TakesEvent}
+use Rattle.integral_model.specs.Integral.{TakesEvent}
 use Rattle.generator_model.specs.Generated.{event_at}
-use Rattle.journal_model.specs.Faults.{event_fault}
+use Rattle.answer_model.specs.Faults.{event_fault}
 use Rattle.billing_memory.specs.Records.{record_view}
 use Rattle.event_script.specs.Views.{event_view}
 use Rattle.meter_config.specs.Views.{settings_of}

@@ -10,5 +10,5 @@ abbrev pub invariant-loop-line : goal.invariant-loop-line
 invariant-loop-line g l = record {
   goes_on : g.B.Board.tells → (new : Trace) (status : Status) → PutsLines (bytes_of (drop l.line-index l.lines)) (g.B.Board.trace l.board) new status → PutsLines (bytes_of l.lines) (g.B.Board.trace l.fn.board) new status;
   memory_untouched : g.B.Board.memory_calls l.board ≡ g.B.Board.memory_calls l.fn.board;
-  later : g.B.Board.output_faults l.fn.board ≤ g.B.Board.output_faults l.board;
+  later : (g.B.Board.faults l.fn.board).output ≤ (g.B.Board.faults l.board).output;
 }

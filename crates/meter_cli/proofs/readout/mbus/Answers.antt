@@ -1,4 +1,4 @@
-use Rattle.std.proofs.Common.{◌≡◌, ◌∙◌, subst, take, Ok, Err}
+use Rattle.std.proofs.Common.{◌≡◌, ◌∙◌, subst, take, Ok}
 use Rattle.reading_model.specs.Telegrams.{telegram_in}
 use Rattle.readout_reader.specs.Views.{telegram_view}
 use Rattle.meter_cli.specs.Puts.{PutsLines}

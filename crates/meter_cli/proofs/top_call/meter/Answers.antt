@@ -16,26 +16,8 @@ returns-in-Ok-Init-clause-init_moments g c = λ config p is reads tells accepts 
 pub returns-in-Ok-Show-clause-puts : goal.returns-in-Ok-Show-clause-puts
 returns-in-Ok-Show-clause-puts g c = λ other not_run tells. looks_alone _ _ _ _ _ c.show.result (c.show.ensures.leaves tells) (subst PutsAlone (sym (c.requires tells)) tt)
 
-pub returns-in-Ok-Water-clause-one_line : goal.returns-in-Ok-Water-clause-one_line
-returns-in-Ok-Water-clause-one_line g c = λ job is one. done_or c.water.result c.water.ensures.kind c.water.ensures.write
-
-pub returns-in-Ok-Coef-clause-one_line : goal.returns-in-Ok-Coef-clause-one_line
-returns-in-Ok-Coef-clause-one_line g c = λ job is one. done_or c.coef.result c.coef.ensures.kind c.coef.ensures.write
-
-pub returns-in-Ok-Temp-clause-one_line : goal.returns-in-Ok-Temp-clause-one_line
-returns-in-Ok-Temp-clause-one_line g c = λ job is one. done_or c.temp.result c.temp.ensures.kind c.temp.ensures.write
-
-pub returns-in-Ok-BenchCalc-clause-one_line : goal.returns-in-Ok-BenchCalc-clause-one_line
-returns-in-Ok-BenchCalc-clause-one_line g c = λ job is one. done_or c.calc.result c.calc.ensures.kind c.calc.ensures.write
-
-pub returns-in-Ok-BenchPair-clause-one_line : goal.returns-in-Ok-BenchPair-clause-one_line
-returns-in-Ok-BenchPair-clause-one_line g c = λ job is one. done_or c.pair.result c.pair.ensures.kind c.pair.ensures.write
-
-pub returns-in-Ok-BenchFlow-clause-one_line : goal.returns-in-Ok-BenchFlow-clause-one_line
-returns-in-Ok-BenchFlow-clause-one_line g c = λ job is one. done_or c.flow.result c.flow.ensures.kind c.flow.ensures.write
-
-pub returns-in-Ok-Gen-clause-one_line : goal.returns-in-Ok-Gen-clause-one_line
-returns-in-Ok-Gen-clause-one_line g c = λ job is one. done_or c.generate.result c.generate.ensures.kind c.generate.ensures.write
+pub returns-in-Ok-Ask-clause-one_line : goal.returns-in-Ok-Ask-clause-one_line
+returns-in-Ok-Ask-clause-one_line g c = λ query is. done_or c.answer.result c.answer.ensures.kind c.answer.ensures.write
 
 pub returns-in-Ok-Show-clause-base : goal.returns-in-Ok-Show-clause-base
 returns-in-Ok-Show-clause-base g c = λ tells. looks_base _ _ _ _ _ c.show.result (c.show.ensures.leaves tells)

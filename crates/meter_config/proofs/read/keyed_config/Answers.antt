@@ -1,9 +1,9 @@
 use Rattle.std.proofs.Common.{refl}
 use Rattle.std.specs.Prelude.{IsTrue}
-use Rattle.config_model.specs.Configuration.{is_sensor}
-use Rattle.pt_curve.specs.declared.sensor.Sensor.{Sensor}
-use Rattle.pt_curve.specs.declared.sensor.Sensor.TheVariants.{Pt100, Pt500, Pt1000}
-use Rattle.pt_curve.specs.Curve.{sensor_ohm}
+use Rattle.parts_model.specs.Ranges.{is_sensor}
+use Rattle.meter_parts.specs.declared.sensor.Sensor.{Sensor}
+use Rattle.meter_parts.specs.declared.sensor.Sensor.TheVariants.{Pt100, Pt500, Pt1000}
+use Rattle.meter_parts.specs.Views.{sensor_ohm}
 use Rattle.std.proofs.lemmas.Result.{err_from_is_err_and}
 use Rattle.accept_model.specs.Keys.{keys, key_names}
 use Rattle.accept_model.specs.Accepted.{said_by}

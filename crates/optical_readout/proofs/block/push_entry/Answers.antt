@@ -13,7 +13,7 @@ returns c =
     let mark = marked c.args.mark day in
     appended 70 c.args.message.now.items c.push_volume.new.message.items (entry_lines config register c.args.mark day)
     (record { day = day; dated = c.text-day.ensures; is = refl })
-    (six_texts c.args.message.now.items c.push_text.new.message.items c.push_mark.new.message.items c.push_energy.new.message.items c.push_text-2.new.message.items c.push_mark-2.new.message.items c.push_volume.new.message.items
+    (six_texts c.args.message.now.items c.append.new.list.items c.push_mark.new.message.items c.push_energy.new.message.items c.append-2.new.list.items c.push_mark-2.new.message.items c.push_volume.new.message.items
     (codes "6.8") mark (energy_value config register) (codes "6.26") mark (volume_value config register)
-    c.push_text.ensures.items (c.push_mark.ensures.items ∙ ap (λ t. c.push_text.new.message.items ++ marked c.args.mark t) c.as_str.ensures.value) c.push_energy.ensures.items c.push_text-2.ensures.items (c.push_mark-2.ensures.items ∙ ap (λ t. c.push_text-2.new.message.items ++ marked c.args.mark t) c.as_str-2.ensures.value) c.push_volume.ensures.items)
-    (omega (arith, c.push_text.ensures.len, c.push_mark.ensures.len, c.push_energy.ensures.len, c.push_text-2.ensures.len, c.push_mark-2.ensures.len, c.push_volume.ensures.len, c.as_str.ensures.fits, c.as_str-2.ensures.fits))
+    c.append.ensures.items (c.push_mark.ensures.items ∙ ap (λ t. c.append.new.list.items ++ marked c.args.mark t) c.as_str.ensures.value) c.push_energy.ensures.items c.append-2.ensures.items (c.push_mark-2.ensures.items ∙ ap (λ t. c.append-2.new.list.items ++ marked c.args.mark t) c.as_str-2.ensures.value) c.push_volume.ensures.items)
+    (omega (arith, c.append.ensures.len, c.push_mark.ensures.len, c.push_energy.ensures.len, c.append-2.ensures.len, c.push_mark-2.ensures.len, c.push_volume.ensures.len, c.as_str.ensures.fits, c.as_str-2.ensures.fits))

@@ -12,8 +12,8 @@ returns c =
     let day = c.text.result.bytes in
     appended 74 c.args.message.now.items c.push_day.new.message.items (first_lines config register day)
     (record { day = day; dated = c.text.ensures; is = refl })
-    (six_texts c.args.message.now.items c.push_serial.new.message.items c.push_text.new.message.items c.push_energy.new.message.items c.push_text-2.new.message.items c.push_volume.new.message.items c.push_day.new.message.items
+    (six_texts c.args.message.now.items c.push_serial.new.message.items c.append.new.list.items c.push_energy.new.message.items c.append-2.new.list.items c.push_volume.new.message.items c.push_day.new.message.items
     (serial_line config) (codes "6.8") (energy_value config register) (codes "6.26") (volume_value config register) (day_line day)
-    c.push_serial.ensures.items c.push_text.ensures.items c.push_energy.ensures.items c.push_text-2.ensures.items c.push_volume.ensures.items
+    c.push_serial.ensures.items c.append.ensures.items c.push_energy.ensures.items c.append-2.ensures.items c.push_volume.ensures.items
     (c.push_day.ensures.items ∙ ap (λ t. c.push_volume.new.message.items ++ day_line t) c.as_str.ensures.value))
-    (omega (arith, c.push_serial.ensures.len, c.push_text.ensures.len, c.push_energy.ensures.len, c.push_text-2.ensures.len, c.push_volume.ensures.len, c.push_day.ensures.len, c.as_str.ensures.fits))
+    (omega (arith, c.push_serial.ensures.len, c.append.ensures.len, c.push_energy.ensures.len, c.append-2.ensures.len, c.push_volume.ensures.len, c.push_day.ensures.len, c.as_str.ensures.fits))

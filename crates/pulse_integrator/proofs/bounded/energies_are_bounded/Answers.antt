@@ -1,4 +1,4 @@
-use Rattle.metering_model.proofs.Bounded.{all_bounded}
+use Rattle.integral_model.proofs.Bounded.{all_bounded}
 use Rattle.pulse_integrator.proofs.bounded.energies_are_bounded.Goals as goal
 
 pub returns : goal.returns

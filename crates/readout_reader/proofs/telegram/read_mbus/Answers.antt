@@ -1,6 +1,6 @@
 use Rattle.std.proofs.Common.{◌∙◌, Ok, sym, ap, arith}
 use Rattle.std.specs.Int.{w16, from_le_bytes}
-use Rattle.sensor_pair.specs.Place.{place_view}
+use Rattle.meter_parts.specs.Views.{place_view}
 use Rattle.reading_model.specs.Telegrams.{decimal_number, letters_of}
 use Rattle.readout_reader.specs.Views.{recs_view}
 use Rattle.readout_reader.proofs.Wholes.{whole, telegram_is, serial_bytes, maker_bytes}

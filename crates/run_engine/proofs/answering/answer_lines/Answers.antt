@@ -2,21 +2,22 @@ use Rattle.std.proofs.Common.{◌+◌, ◌∙◌, ◌++◌, inl, inr, refl, ap, 
 use Rattle.event_script.specs.Held.{held}
 use Rattle.event_script.specs.Next.{SaysAt}
 use Rattle.event_script.specs.Views.{line_view}
+use Rattle.run_engine.specs.declared.Ended.TheVariants as ends
 use Rattle.run_engine.proofs.Reading.{all_read}
+use Rattle.run_engine.proofs.Stops.{memory_stopped, rises_further, stop_not_done, stop_not_read, write_stopped}
 use Rattle.run_engine.proofs.answering.answer_lines.Goals as goal
 
 pub loop-said-init : goal.loop-said-init
 loop-said-init g c = record {
   ready = λ told tells opening ready.
       let script = g.S.Source.left c.args.source.now in
-      subst (λ n. g.A.Answerer.IsReady c.args.answerer.now c.args.board.now opening script (held c.new-lines.result.buffer ++ script) n) (sym c.new-lines.ensures.given)
-      (subst (λ b. g.A.Answerer.IsReady c.args.answerer.now c.args.board.now opening script (b ++ script) 0) (sym c.new-lines.ensures.held) ready);
+      subst (λ n. g.A.Answerer.Readiness c.args.answerer.now c.args.board.now opening script (held c.new-lines.result.buffer ++ script) n) (sym c.new-lines.ensures.given)
+      (subst (λ b. g.A.Answerer.Readiness c.args.answerer.now c.args.board.now opening script (b ++ script) 0) (sym c.new-lines.ensures.held) ready);
   settled = c.requires.settled;
   goes_on = g.met.A.Answerer.stays c.args.board.now;
   fresh = c.new-lines.ensures.has_ended;
   faults = omega arith;
-  memory_faults = omega arith;
-  output_faults = omega arith;
+  board_faults = record { memory = omega arith; output = omega arith; cuts = omega arith };
 }
 
 -- ---- reading ended
@@ -28,7 +29,7 @@ returns-in-End-clause-over g c = λ told tells opening ready.
       held l.lines.buffer ++ g.S.Source.left l.source,
       l.lines.given,
       l.invariant.ready told tells opening ready,
-      ((c.in-End.ensures.gives told).0, all_read (held c.next.new.self.buffer) (g.S.Source.left c.next.new.source) (c.in-End.ensures.gives told).1),
+      inl (refl, (c.in-End.ensures.gives told).0, all_read (held c.next.new.self.buffer) (g.S.Source.left c.next.new.source) (c.in-End.ensures.gives told).1),
     )
 
 pub returns-in-End-clause-end : goal.returns-in-End-clause-end
@@ -41,7 +42,7 @@ returns-in-Bad-clause-over g c = λ told tells opening ready.
       held l.lines.buffer ++ g.S.Source.left l.source,
       l.lines.given,
       l.invariant.ready told tells opening ready,
-      (ap (λ n. n + 1) c.given-taken.ensures, c.in-Bad.ensures.gives told),
+      inr (inl (c.in-Bad.kind, ap (λ n. ends.Line (n + 1) c.in-Bad.kind) c.given-taken.ensures, c.in-Bad.ensures.gives told)),
     )
 
 pub returns-in-ReadFault-clause-over : goal.returns-in-ReadFault-clause-over
@@ -51,7 +52,7 @@ returns-in-ReadFault-clause-over g c = λ told tells opening ready.
       held l.lines.buffer ++ g.S.Source.left l.source,
       l.lines.given,
       l.invariant.ready told tells opening ready,
-      record { front = held c.next.new.self.buffer; bytes = sym (c.in-ReadFault.ensures.gives told); undecided = c.in-ReadFault.ensures.open refl },
+      inr (inr (refl, record { front = held c.next.new.self.buffer; bytes = sym (c.in-ReadFault.ensures.gives told); undecided = c.in-ReadFault.ensures.open refl })),
     )
 
 pub returns-in-End-clause-may_end : goal.returns-in-End-clause-may_end
@@ -72,12 +73,32 @@ returns-in-Err-clause-over g c = λ told tells opening ready.
     let rest = held l.lines.buffer ++ g.S.Source.left l.source in
     let said = c.in-Got.ensures.gives told in
     inl (
-      c.in-Err.ensures.kind,
-      c.in-Err.ensures.leads tells opening script rest said.line (held c.next.new.self.buffer ++ g.S.Source.left c.next.new.source)
-          (subst (λ n. g.A.Answerer.IsReady l.answerer l.board opening script rest n) (sym c.given-taken.ensures) (l.invariant.ready told tells opening ready)) said.first
+      record { n = c.given-taken.result + 1; stop = c.in-Err.stop; is = c.ended.ensures },
+      subst (g.A.Answerer.Leaves c.answer.new.board opening script) (sym c.ended.ensures)
+          (c.in-Err.ensures.leads tells opening script rest said.line (held c.next.new.self.buffer ++ g.S.Source.left c.next.new.source) c.given-taken.result
+          (subst (λ n. g.A.Answerer.Readiness l.answerer l.board opening script rest n) (sym c.given-taken.ensures) (l.invariant.ready told tells opening ready)) said.first
           (subst (λ m. SaysAt c.given-taken.result said.line (line_view c.in-Got.said m)) (sym c.message.ensures)
-          (subst (λ n. SaysAt n said.line (line_view c.in-Got.said c.next.new.self.message.items)) (sym c.given-taken.ensures) said.says)),
+          (subst (λ n. SaysAt n said.line (line_view c.in-Got.said c.next.new.self.message.items)) (sym c.given-taken.ensures) said.says))),
     )
+
+pub returns-in-Err-clause-may_end : goal.returns-in-Err-clause-may_end
+returns-in-Err-clause-may_end g c = subst g.A.Answerer.MayEnd (sym c.ended.ensures) (c.in-Err.ensures.may_end (c.given-taken.result + 1))
+
+pub returns-in-Err-clause-end : goal.returns-in-Err-clause-end
+returns-in-Err-clause-end g c = λ told is. absurd (stop_not_done (c.given-taken.result + 1) c.in-Err.stop (sym c.ended.ensures ∙ is))
+
+pub returns-in-Err-clause-read : goal.returns-in-Err-clause-read
+returns-in-Err-clause-read g c = λ is. absurd (stop_not_read (c.given-taken.result + 1) c.in-Err.stop (sym c.ended.ensures ∙ is))
+
+pub returns-in-Err-clause-memory : goal.returns-in-Err-clause-memory
+returns-in-Err-clause-memory g c = λ is.
+    let rose = memory_stopped _ _ (c.given-taken.result + 1) c.in-Err.stop c.in-Err.ensures.cause.failed (sym c.ended.ensures ∙ is) in
+    omega (arith, rose, c.loop-said.invariant.board_faults.memory)
+
+pub returns-in-Err-clause-write : goal.returns-in-Err-clause-write
+returns-in-Err-clause-write g c = λ is.
+    let rose = write_stopped _ _ (c.given-taken.result + 1) c.in-Err.stop c.in-Err.ensures.cause.failed (sym c.ended.ensures ∙ is) in
+    omega (arith, rose, c.loop-said.invariant.board_faults.output)
 
 pub returns-in-Err-clause-goes_on : goal.returns-in-Err-clause-goes_on
 returns-in-Err-clause-goes_on g c = g.met.A.Answerer.goes_further c.args.board.now c.loop-said.board c.answer.new.board c.loop-said.invariant.goes_on c.answer.ensures.goes_on
@@ -91,15 +112,14 @@ loop-said-preserved g c =
           let rest = held l.lines.buffer ++ g.S.Source.left l.source in
           let after = held c.next.new.self.buffer ++ g.S.Source.left c.next.new.source in
           let said = c.in-Got.ensures.gives told in
-          subst (λ n. g.A.Answerer.IsReady c.answer.new.self c.answer.new.board opening script after n) (ap (λ n. n + 1) c.given-taken.ensures ∙ sym c.in-Got.ensures.given)
-          (c.in-Ok.ensures.leads tells opening script rest said.line after
-          (subst (λ n. g.A.Answerer.IsReady l.answerer l.board opening script rest n) (sym c.given-taken.ensures) (l.invariant.ready told tells opening ready)) said.first
+          subst (λ n. g.A.Answerer.Readiness c.answer.new.self c.answer.new.board opening script after n) (ap (λ n. n + 1) c.given-taken.ensures ∙ sym c.in-Got.ensures.given)
+          (c.in-Ok.ensures.leads tells opening script rest said.line after c.given-taken.result
+          (subst (λ n. g.A.Answerer.Readiness l.answerer l.board opening script rest n) (sym c.given-taken.ensures) (l.invariant.ready told tells opening ready)) said.first
           (subst (λ m. SaysAt c.given-taken.result said.line (line_view c.in-Got.said m)) (sym c.message.ensures)
           (subst (λ n. SaysAt n said.line (line_view c.in-Got.said c.next.new.self.message.items)) (sym c.given-taken.ensures) said.says)));
       settled = c.in-Ok.ensures.settled;
       goes_on = g.met.A.Answerer.goes_further c.args.board.now l.board c.answer.new.board l.invariant.goes_on c.answer.ensures.goes_on;
       fresh = c.in-Got.ensures.has_ended;
       faults = omega (arith, l.invariant.faults, c.in-Got.ensures.later);
-      memory_faults = omega (arith, l.invariant.memory_faults, c.answer.ensures.memory_faults);
-      output_faults = omega (arith, l.invariant.output_faults, c.answer.ensures.output_faults);
+      board_faults = rises_further _ _ _ l.invariant.board_faults c.answer.ensures.cause.later;
     }

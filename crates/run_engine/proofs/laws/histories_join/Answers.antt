@@ -1,6 +1,7 @@
 use Rattle.std.proofs.Common.{subst}
-use Rattle.metering_model.specs.Integral.{AllFit, AllFitWithMargin, AllFitClosely}
-use Rattle.metering_model.proofs.Joined.{closely-joined, fit-joined, margin-joined, stands-joined}
+use Rattle.integral_model.specs.Integral.{AllFit, AllFitWithMargin, AllFitClosely}
+use Rattle.metering_model.proofs.Joined.{stands-joined}
+use Rattle.integral_model.proofs.Joined.{closely-joined, fit-joined, margin-joined}
 use Rattle.run_engine.proofs.laws.histories_join.Goals as goal
 
 pub returns-clause-stands : goal.returns-clause-stands

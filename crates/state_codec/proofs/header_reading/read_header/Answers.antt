@@ -1,7 +1,7 @@
 use Rattle.std.proofs.lemmas.Result.{err_from_is_err_and}
 use Rattle.state_codec.specs.Header.{identity_view, measuring_view, billing_view}
 use Rattle.state_codec.proofs.Headers.{identity_fails, measuring_fails, billing_fails, calibration_fails, blank_fails, all_pass}
-use Rattle.meter_config.specs.Views.{calibration_view}
+use Rattle.meter_parts.specs.Views.{calibration_view}
 use Rattle.state_codec.proofs.header_reading.read_header.Goals as goal
 
 pub returns-in_err-identity : goal.returns-in_err-identity

@@ -1,11 +1,12 @@
 use Rattle.std.proofs.Common.{◌≡◌, ◌∙◌, ◌++◌, ◌∷◌, ◌+◌, lit≤, ap, sym, subst, ℕ, List, length, drop, arith, rules, Ok, true, refl, [], append_assoc, length-append}
 use Rattle.std.specs.Prelude.{replicate}
-use Rattle.config_model.specs.Configuration.{Configuration, is_sensor}
-use Rattle.pt_curve.specs.Curve.{sensor_ohm}
+use Rattle.config_model.specs.Configuration.{Configuration}
+use Rattle.parts_model.specs.Ranges.{is_sensor}
+use Rattle.meter_parts.specs.Views.{sensor_ohm}
 use Rattle.meter_config.specs.Views.{config_view}
 use Rattle.meter_config.specs.declared.config.Config.{Config}
-use Rattle.pt_curve.specs.declared.sensor.Sensor.{Sensor}
-use Rattle.pt_curve.specs.declared.sensor.Sensor.TheVariants.{Pt100, Pt500, Pt1000}
+use Rattle.meter_parts.specs.declared.sensor.Sensor.{Sensor}
+use Rattle.meter_parts.specs.declared.sensor.Sensor.TheVariants.{Pt100, Pt500, Pt1000}
 use Rattle.memory_model.specs.Header.{header_in}
 use Rattle.state_codec.specs.Header.{identity_bytes, measuring_bytes, billing_bytes, settings_bytes, calibration_bytes, header_bytes}
 use Rattle.state_codec.proofs.HeaderLaws.{IsSpelled, header-again, header-spelled}

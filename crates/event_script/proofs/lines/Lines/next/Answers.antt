@@ -1,6 +1,6 @@
 use Rattle.std.proofs.Common.{◌≡◌, ℕ, ◌+◌, ◌++◌, inr, true, Option, [], take, drop, refl, sym, ap, subst, ◌∙◌, arith, append_assoc}
 use Rattle.std.specs.Prelude.{MatchOption}
-use Rattle.journal_model.specs.Faults.{is_open}
+use Rattle.answer_model.specs.Faults.{is_open}
 use Rattle.event_script.specs.Held.{held}
 use Rattle.event_script.specs.Next.{Decides, GivesLine, NextGives}
 use Rattle.event_script.proofs.Nexts.{asked, gives_decided, undecided}

@@ -1,6 +1,6 @@
 use Rattle.std.proofs.Common.{◌≡◌, ℕ, ◌-◌, ◌≤◌, ◌⊎◌, ◌++◌, false, true, List, length}
 use Rattle.std.specs.Prelude.{MatchOption}
-use Rattle.journal_model.specs.Faults.{is_open}
+use Rattle.answer_model.specs.Faults.{is_open}
 use Rattle.event_script.specs.Held.{held}
 use Rattle.event_script.specs.Next.{AsksWhereOpen, Decides}
 use Rattle.event_script.proofs.lines.Lines.next.Given as goal

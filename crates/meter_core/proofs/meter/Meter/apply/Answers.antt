@@ -2,8 +2,8 @@ use Rattle.std.proofs.Common.{◌≡◌, refl, sym, subst}
 use Rattle.event_script.specs.Views.{event_view}
 use Rattle.meter_config.specs.Views.{settings_of}
 use Rattle.billing_memory.specs.Records.{record_view}
-use Rattle.journal_model.specs.Faults.{event_fault}
-use Rattle.metering_model.specs.Integral.{TakesEvent}
+use Rattle.answer_model.specs.Faults.{event_fault}
+use Rattle.integral_model.specs.Integral.{TakesEvent}
 use Rattle.std.proofs.Common.{None}
 use Rattle.meter_core.specs.Events.{Takes}
 use Rattle.meter_core.proofs.Records.{samples_taken, has_room}

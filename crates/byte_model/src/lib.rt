@@ -1,0 +1,3 @@
+//! What bytes are.
+//! Definitions alone, in `specs/`.
+#![tactic(auto)]

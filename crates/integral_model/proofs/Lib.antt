@@ -1,0 +1,4 @@
+pub mod Joined
+pub mod Bounded
+pub mod Choices
+pub mod Worked

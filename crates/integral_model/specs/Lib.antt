@@ -1,0 +1,2 @@
+pub mod Integral
+pub mod Near

@@ -1,8 +1,0 @@
--- The place of the flow sensor as the definitions name it.
-use Rattle.heat_model.specs.Heat
-use Rattle.sensor_pair.specs.declared.place.Place.{Place}
-use Rattle.sensor_pair.specs.declared.place.Place.TheVariants.{Flow, Return}
-
-abbrev pub place_view : Place → Heat.Place
-place_view Flow = Heat.Flow
-place_view Return = Heat.Return
