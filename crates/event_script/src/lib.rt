@@ -3,8 +3,6 @@
 
 mod buffer;
 mod lines;
-#[cfg(test)]
-mod lines_tests;
 mod message;
 mod next;
 mod number;

@@ -11,8 +11,14 @@ use crate::joined::volume_over;
 use crate::polys::Polys;
 use dec_tables::{Part, collapse, region1_table};
 use interval_num::{Enc, Span};
+use meter_parts::{MAX_PRESSURE_KPA, MIN_PRESSURE_KPA};
 use region1_terms::{PressureVariable, Variables};
 use thiserror::Error;
+
+/// The range of pressures in kPa.
+const LEAST: u32 = MIN_PRESSURE_KPA as u32;
+
+const MOST: u32 = MAX_PRESSURE_KPA as u32;
 
 /// A pressure outside 1,100 to 4,000 kPa.
 #[derive(Clone, Copy, Debug, PartialEq, Eq, Error)]
@@ -64,7 +70,7 @@ impl Water {
         ensures kept { IfOk result (λ w. w.p_kpa ≡ p_kpa) }
         ensures refused { IfErr result (λ e. e.p_kpa ≡ p_kpa) }
     {
-        if (1_100..=4_000).contains(&p_kpa) {
+        if (LEAST..=MOST).contains(&p_kpa) {
             Ok(Water {
                 p_kpa,
                 tables: tables_at(p_kpa),

@@ -5,6 +5,3 @@ mod event;
 mod script;
 
 pub use script::Script;
-
-#[cfg(test)]
-mod tests;

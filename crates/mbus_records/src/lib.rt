@@ -9,8 +9,6 @@ mod push;
 mod reading;
 mod slave;
 mod temps;
-#[cfg(test)]
-mod tests;
 
 pub use compose::telegram;
 pub use slave::Slave;

@@ -17,8 +17,6 @@ mod sim_board;
 mod slice_source;
 mod source;
 mod std_source;
-#[cfg(test)]
-mod tests;
 
 pub use board::Board;
 pub use fault_counts::FaultCounts;

@@ -9,15 +9,15 @@ use crate::job::{
     WaterState,
 };
 use event_script::number_word;
-use meter_parts::{Place, Sensor};
+use meter_parts::{MAX_PRESSURE_KPA, MIN_PRESSURE_KPA, Place, Sensor};
 
 /// The most microohms of a sample.
 const MAX_SAMPLE: u64 = 4_294_967_295;
 
 /// The pressures of water, in kPa.
-const MIN_PRESSURE: u64 = 1_100;
+const MIN_PRESSURE: u64 = MIN_PRESSURE_KPA as u64;
 
-const MAX_PRESSURE: u64 = 4_000;
+const MAX_PRESSURE: u64 = MAX_PRESSURE_KPA as u64;
 
 /// The highest temperature, and the greatest least difference, in microdegrees.
 const MAX_TEMPERATURE: u64 = 180_000_000;

@@ -85,23 +85,3 @@ impl Config {
         }
     }
 }
-
-#[cfg(test)]
-mod tests {
-    use super::*;
-    use billing_memory::day_of;
-
-    #[test]
-    fn standard_configuration(rt: HostRuntime) {
-        let config = Config::standard();
-        assert_eq!(rt; config.serial, 12_345_678);
-        assert_eq!(rt; config.maker, [b'A', b'B', b'C']);
-        assert_eq!(rt; (config.version, config.address), (1, 1));
-        assert_eq!(rt; config.place, Place::Return);
-        assert_eq!(rt; (config.pressure_kpa, config.per_pulse), (1_600, 10));
-        assert_eq!(rt; config.sensor, Sensor::Pt500);
-        assert_eq!(rt; (config.energy_decimals, config.volume_decimals), (0, 2));
-        assert_eq!(rt; config.set_month, 1);
-        assert_eq!(rt; Some(config.opening_day), day_of(2024, 1, 15));
-    }
-}

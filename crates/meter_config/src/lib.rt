@@ -4,8 +4,6 @@
 mod calibration;
 mod config;
 mod fault;
-#[cfg(test)]
-mod hostile_tests;
 mod keys;
 mod read;
 mod values;

@@ -3,8 +3,6 @@
 
 mod meter;
 mod refused;
-#[cfg(test)]
-mod tests;
 
 pub use meter::Meter;
 pub use refused::Refused;

@@ -1,5 +1,5 @@
 //! The commands that put one line.
-use crate::shown::{ends_behind, line_of};
+use crate::shown::{ends_behind, line_of, number};
 use crate::trial::{EMPTY, Trial, Trouble, attempt, is_done};
 use meter_board::CallKind;
 use meter_cli::Status;
@@ -105,21 +105,17 @@ fn a_calculator_at_its_limit_is_undecided(rt: HostRuntime) -> Result<(), Fail> {
 fn water_is_as_published(rt: HostRuntime) -> Result<(), Fail> {
     let line = line_of(&rt, "water 3000 26850000")?;
     let mut words = line.as_str().split_whitespace();
-    assert_eq!(&rt; words.next(), Some("v"));
-    let v_lo = words.next().ok_or("no number")?.parse::<i128>()?;
-    let v_hi = words.next().ok_or("no number")?.parse::<i128>()?;
-    assert_eq!(&rt; words.next(), Some("h"));
-    let h_lo = words.next().ok_or("no number")?.parse::<i128>()?;
-    let h_hi = words.next().ok_or("no number")?.parse::<i128>()?;
+    for (name, lo, hi, width) in [
+        ("v", 1_002_151_679_686, 1_002_151_679_687, 269),
+        ("h", 115_331_273_021, 115_331_273_022, 28),
+    ] {
+        assert_eq!(&rt; words.next(), Some(name));
+        let low = number(words.next())?;
+        let high = number(words.next())?;
+        assert!(&rt; low <= lo && hi <= high, "{name}");
+        assert!(&rt; high <= low.saturating_add(width), "{name}");
+    }
     assert_eq!(&rt; words.next(), None);
-    assert!(&rt; 1_002_151_674_000 <= v_lo && v_lo <= v_hi && v_hi <= 1_002_151_686_000);
-    assert!(&rt; v_lo <= 1_002_151_685_000 && 1_002_151_675_000 <= v_hi);
-    assert!(&rt; v_lo <= 1_002_151_679_686);
-    assert!(&rt; 1_002_151_679_687 <= v_hi && v_hi <= v_lo + 269);
-    assert!(&rt; 115_331_271_500 <= h_lo && h_lo <= h_hi && h_hi <= 115_331_274_500);
-    assert!(&rt; h_lo <= 115_331_273_500 && 115_331_272_500 <= h_hi);
-    assert!(&rt; h_lo <= 115_331_273_021);
-    assert!(&rt; 115_331_273_022 <= h_hi && h_hi <= h_lo + 28);
     Ok(())
 }
 
@@ -141,14 +137,13 @@ fn generated_events_are_metered(rt: HostRuntime) -> Result<(), Fail> {
     let line = line_of(&rt, "gen 7 2000")?;
     let again = line_of(&rt, "gen 7 2000")?;
     assert_eq!(&rt; line.as_str(), again.as_str());
-    let mut words = line.as_str().split_whitespace();
-    for word in ["gen", "2000", "2000", "90740"] {
-        assert_eq!(&rt; words.next(), Some(word));
-    }
-    let energy = words.next().ok_or("no number")?.parse::<i64>()?;
-    let bound = words.next().ok_or("no number")?.parse::<u64>()?;
+    assert!(&rt; line.as_str().starts_with("gen 2000 2000 90740 "));
+    let mut words = line.as_str().split_whitespace().skip(4);
+    let energy = number(words.next())?;
+    let bound = number(words.next())?;
     assert_eq!(&rt; words.next(), None);
-    assert!(&rt; energy.abs_diff(29_555_922_715_982) <= bound && bound <= 90_740 * 2_000);
+    assert!(&rt; energy.abs_diff(29_555_922_715_982) <= bound.unsigned_abs());
+    assert!(&rt; 0 <= bound && bound <= 90_740 * 2_000);
     Ok(())
 }
 

@@ -1,4 +1,5 @@
 //! Scripts of `dry` and `run`, with their output lines.
+use crate::shown::number;
 use crate::trial::{EMPTY, STANDARD, Trial, ends, is_done, standard_meter};
 use billing_memory::day_of;
 use event_script::LineFault;
@@ -23,7 +24,7 @@ fn lines_have_their_answers(rt: HostRuntime) -> Result<(), Fail> {
 }
 
 // What an output line shows: the number of events, the litres, the energy and its bound.
-type Shown = (u64, u64, i64, u64);
+type Shown = (i128, i128, i128, i128);
 
 fn shown(
     rt: &(impl Abort + AllocGlobal),
@@ -43,10 +44,10 @@ fn shown(
 fn shown_by(rt: &impl Abort, line: &str) -> Result<Shown, Fail> {
     let mut words = line.split_whitespace();
     assert_eq!(rt; words.next(), Some("ok"));
-    let seq = words.next().ok_or("no number")?.parse::<u64>()?;
-    let litres = words.next().ok_or("no number")?.parse::<u64>()?;
-    let energy = words.next().ok_or("no number")?.parse::<i64>()?;
-    let bound = words.next().ok_or("no number")?.parse::<u64>()?;
+    let seq = number(words.next())?;
+    let litres = number(words.next())?;
+    let energy = number(words.next())?;
+    let bound = number(words.next())?;
     assert_eq!(rt; words.next(), None);
     Ok((seq, litres, energy, bound))
 }
@@ -56,32 +57,33 @@ fn shown_by(rt: &impl Abort, line: &str) -> Result<Shown, Fail> {
 fn energy_is_counted_between_samples_in_range(rt: HostRuntime) -> Result<(), Fail> {
     let script = "pulse 1\nsample 616209500 596985625\npulse 1\nsample 0 596985625\npulse 1\n";
     let shown = shown(&rt, "dry", &EMPTY, script)?;
-    assert_eq!(&rt; shown.len(), 5);
-    let (_, _, energy, bound) = shown[2];
-    assert_eq!(&rt; shown[0], (1, 10, 0, 0));
-    assert_eq!(&rt; shown[1], (2, 10, 0, 0));
-    assert_eq!(&rt; shown[2], (3, 20, energy, bound));
-    assert_eq!(&rt; shown[3], (4, 20, energy, bound));
-    assert_eq!(&rt; shown[4], (5, 30, energy, bound));
+    let (_, _, energy, bound) = *shown.get(2).ok_or("no line")?;
+    let want = [
+        (1, 10, 0, 0),
+        (2, 10, 0, 0),
+        (3, 20, energy, bound),
+        (4, 20, energy, bound),
+        (5, 30, energy, bound),
+    ];
+    assert_eq!(&rt; shown.as_slice(), want.as_slice());
     assert!(&rt; 410_000_000 <= energy && energy <= 417_000_000);
     Ok(())
 }
 
 // A thousand litres from 60 to 50 °C are counted by one line.
-fn a_thousand_litres_count(rt: &impl Abort, shown: &[Shown]) {
-    assert_eq!(rt; shown.len(), 2);
-    let (_, _, energy, bound) = shown[1];
-    assert_eq!(rt; shown[0], (1, 0, 0, 0));
-    assert_eq!(rt; shown[1], (2, 1000, energy, bound));
+fn a_thousand_litres_count(rt: &impl Abort, shown: &[Shown]) -> Result<(), Fail> {
+    let (_, _, energy, bound) = *shown.get(1).ok_or("no line")?;
+    let want = [(1, 0, 0, 0), (2, 1000, energy, bound)];
+    assert_eq!(rt; shown, want.as_slice());
     assert!(rt; 41_000_000_000 <= energy && energy <= 41_700_000_000);
-    assert!(rt; bound <= 1_500_000);
+    assert!(rt; 0 <= bound && bound <= 1_500_000);
+    Ok(())
 }
 
 #[test]
 fn pulses_of_one_line_are_counted_together(rt: HostRuntime) -> Result<(), Fail> {
     let script = "sample 616209500 596985625\npulse 100\n";
-    a_thousand_litres_count(&rt, &shown(&rt, "dry", &EMPTY, script)?);
-    Ok(())
+    a_thousand_litres_count(&rt, &shown(&rt, "dry", &EMPTY, script)?)
 }
 
 // The flow is 9,999 and then 10,000 microdegrees warmer than the return.
@@ -89,14 +91,16 @@ fn pulses_of_one_line_are_counted_together(rt: HostRuntime) -> Result<(), Fail> 
 fn energy_is_counted_from_a_hundredth_of_a_degree_on(rt: HostRuntime) -> Result<(), Fail> {
     let script = "sample 597004877 596985625\npulse 1\nsample 597004878 596985625\npulse 1\n";
     let shown = shown(&rt, "dry", &EMPTY, script)?;
-    assert_eq!(&rt; shown.len(), 4);
-    let (_, _, energy, bound) = shown[3];
-    assert_eq!(&rt; shown[0], (1, 0, 0, 0));
-    assert_eq!(&rt; shown[1], (2, 10, 0, 0));
-    assert_eq!(&rt; shown[2], (3, 10, 0, 0));
-    assert_eq!(&rt; shown[3], (4, 20, energy, bound));
+    let (_, _, energy, bound) = *shown.get(3).ok_or("no line")?;
+    let want = [
+        (1, 0, 0, 0),
+        (2, 10, 0, 0),
+        (3, 10, 0, 0),
+        (4, 20, energy, bound),
+    ];
+    assert_eq!(&rt; shown.as_slice(), want.as_slice());
     assert!(&rt; 300_000 <= energy && energy <= 520_000);
-    assert!(&rt; bound <= 15_000);
+    assert!(&rt; 0 <= bound && bound <= 15_000);
     Ok(())
 }
 
@@ -114,8 +118,7 @@ fn calibrated_sensors_are_read_by_their_constants(rt: HostRuntime) -> Result<(),
         "init 12345678\n",
     )?;
     let script = "sample 617441919 596985625\npulse 100\n";
-    a_thousand_litres_count(&rt, &shown(&rt, "run", &made.memory, script)?);
-    Ok(())
+    a_thousand_litres_count(&rt, &shown(&rt, "run", &made.memory, script)?)
 }
 
 #[test]

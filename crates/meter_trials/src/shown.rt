@@ -16,12 +16,17 @@ pub(crate) fn text_of(rt: &impl AllocGlobal, bytes: &[u8]) -> Result<String, Fai
     Ok(String::from_str(rt.alloc(), std::str::from_utf8(bytes)?)?)
 }
 
+/// The number that a word says.
+pub(crate) fn number(word: Option<&str>) -> Result<i128, Fail> {
+    Ok(word.ok_or("no number")?.parse::<i128>()?)
+}
+
 /// The two numbers of a line that has them alone behind its first word.
 pub(crate) fn ends_behind(rt: &impl Abort, line: &str, first: &str) -> Result<(i128, i128), Fail> {
     let mut words = line.split_whitespace();
     assert_eq!(rt; words.next(), Some(first));
-    let lo = words.next().ok_or("no number")?.parse::<i128>()?;
-    let hi = words.next().ok_or("no number")?.parse::<i128>()?;
+    let lo = number(words.next())?;
+    let hi = number(words.next())?;
     assert_eq!(rt; words.next(), None);
     Ok((lo, hi))
 }

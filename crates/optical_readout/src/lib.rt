@@ -7,7 +7,5 @@ mod head;
 mod message;
 mod push;
 mod request;
-#[cfg(test)]
-mod tests;
 
 pub use head::{Optical, REPLY_ROOM};

@@ -15,8 +15,6 @@ mod record;
 mod records;
 mod telegram;
 mod telegram_rules;
-#[cfg(test)]
-mod tests;
 mod texts;
 mod value;
 

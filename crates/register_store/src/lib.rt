@@ -4,16 +4,12 @@
 mod committing;
 mod format_fault;
 mod formatting;
-#[cfg(test)]
-mod hostile_tests;
 mod layout;
 mod loading;
 mod looking;
 mod recovery;
 mod settling;
 mod side;
-#[cfg(test)]
-mod tests;
 mod unreadable;
 
 pub use committing::{commit, fill_slot, turn_gate};

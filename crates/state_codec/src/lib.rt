@@ -10,8 +10,6 @@ mod header_writing;
 mod slot_parts;
 mod slot_reading;
 mod slot_writing;
-#[cfg(test)]
-mod tests;
 
 pub use foreign::Foreign;
 pub use header_reading::{HEADER_SIZE, decode_header};
