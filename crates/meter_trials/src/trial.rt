@@ -140,9 +140,11 @@ fn order(board: &mut SimBoard, source: &mut SliceSource<'_>, trouble: Trouble)
 fn fail_first(board: &mut SimBoard, kind: CallKind)
     ensures { sim_trace board.new ≡ sim_trace board.old }
 {
-    for number in 1..=5 {
-        board.fail_on(kind, number);
-    }
+    board.fail_on(kind, 1);
+    board.fail_on(kind, 2);
+    board.fail_on(kind, 3);
+    board.fail_on(kind, 4);
+    board.fail_on(kind, 5);
 }
 
 /// The trial ends with this status after this output.
