@@ -6,6 +6,7 @@ use Rattle.std.proofs.lemmas.Bool.{le-leb}
 use Rattle.std.proofs.lemmas.List.{get_or_append_left, take-append-le, drop-append-le}
 use Rattle.script_model.specs.Grammar.{◌>>=◌}
 use Rattle.optical_model.specs.Messages.{check_character}
+use Rattle.answer_lines.proofs.Said.{ok_both, ok_if}
 use Rattle.reading_model.specs.Rules.{byte}
 use Rattle.reading_model.specs.Fields.{Shown, Message}
 use Rattle.reading_model.specs.Messages.{behind, Form, said_before, is_mended, text_of, serial_form, serial_of, number_form, number_size, decimals_of, number_of, day_form, day_of, same_form, same_of, Reader, between, first_lines, energy_opening, volume_opening, entry_of, onto_entries, entries_of, marks_of, ends_with, check_before, with_entries, lines_of, placed, message_in}
@@ -15,10 +16,6 @@ use Rattle.reading_model.specs.Messages.{behind, Form, said_before, is_mended, t
 ok_weaker : {A : Type 0} (P Q : A → Type 0) (said : Result A ℕ) → IfOk said P → ((x : A) → P x → Q x) → IfOk said Q
 ok_weaker P Q (Ok x) is weaker = weaker x is
 ok_weaker P Q (Err left) is weaker = tt
-
-ok_both : {A B : Type 0} (P : A → Type 0) (Q : B → Type 0) (said : Result A ℕ) (more : A → Result B ℕ) → IfOk said P → ((x : A) → P x → IfOk (more x) Q) → IfOk (said >>= more) Q
-ok_both P Q (Ok x) more first next = next x first
-ok_both P Q (Err left) more first next = tt
 
 ok_at : {A : Type 0} (P : A → Type 0) (said : Result A ℕ) (x : A) → IfOk said P → said ≡ Ok x → P x
 ok_at {A} P said x is same = let Q : Result A ℕ → Type 0 = λ s. IfOk s P in subst Q same is
@@ -207,10 +204,6 @@ entry_takes mark =
 
 -- ---- entries
 
-if_most : {A : Type 0} (b : Bool) (P : A → Type 0) (said other : Result A ℕ) → IfOk said P → IfOk other P → IfOk (if b then said else other) P
-if_most true P said other first second = first
-if_most false P said other first second = second
-
 if_steady : {A : Type 0} (b : Bool) (grow : A → A) (n : ℕ) (said other said_on other_on : Result A ℕ) → said_on ≡ grown grow n said → other_on ≡ grown grow n other → (if b then said_on else other_on) ≡ grown grow n (if b then said else other)
 if_steady true grow n said other said_on other_on first second = first
 if_steady false grow n said other said_on other_on first second = second
@@ -228,7 +221,7 @@ entries_take zero = record { most = λ bytes. omega arith; steady = λ bytes mor
 entries_take (suc n) =
     let rest = then_takes 70 (70 * n) (entry_of (25 - n)) (λ first bytes. entries_of n bytes >>= λ others. onto_entries first others) (entry_takes (25 - n)) (onto_takes n (entries_take n)) in
     record {
-      most = λ bytes. if_most (byte bytes 0 == 33) (λ x. length bytes ≤ length x.1 + 70 * suc n) (Ok ([], bytes)) _ (omega arith)
+      most = λ bytes. ok_if (λ x. length bytes ≤ length x.1 + 70 * suc n) (byte bytes 0 == 33) (Ok ([], bytes)) _ (omega arith)
           (ok_weaker (λ x. length bytes ≤ length x.1 + (70 + 70 * n)) (λ x. length bytes ≤ length x.1 + 70 * suc n) (entry_of (25 - n) bytes >>= λ first. entries_of n first.1 >>= λ others. onto_entries first.0 others) (rest.most bytes) (λ x le. omega arith));
       steady = λ bytes more le.
           let same : byte (bytes ++ more) 0 ≡ byte bytes 0 = get_or_append_left bytes more 0 0 (omega arith) in

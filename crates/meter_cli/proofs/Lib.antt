@@ -1,13 +1,8 @@
-pub mod Benches
-pub mod Decimals
+pub mod Certs
 pub mod Events
+pub mod Further
 pub mod Inits
 pub mod Keys
 pub mod Lines
-pub mod Shows
-pub mod Waters
-pub mod Certs
 pub mod Readings
-pub mod Further
-pub mod Legible
-pub mod Temps
+pub mod Shows

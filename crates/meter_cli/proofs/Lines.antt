@@ -9,7 +9,7 @@ use Rattle.trace_model.specs.Moments.{Grew, Leaves, more}
 use Rattle.trace_model.proofs.Images.{before_put}
 use Rattle.meter_board.specs.Puts.{PutsFront}
 use Rattle.meter_cli.specs.Puts.{PutsLine, PutsLines}
-use Rattle.meter_cli.specs.Show.{bytes_of}
+use Rattle.answer_lines.specs.Texts.{bytes_of}
 use Rattle.meter_cli.specs.declared.status.Status.{Status}
 use Rattle.meter_cli.specs.declared.status.Status.TheVariants.{Done, Write}
 

@@ -2,14 +2,14 @@
 use Rattle.std.specs.Prelude.{◌≡◌, ℕ, List}
 use Rattle.trace_model.specs.Trace.{Trace}
 use Rattle.meter_parts.specs.Views.{place_view}
-use Rattle.meter_cli.specs.Bench.{IsCalcText, IsPairText, flow_text}
-use Rattle.meter_cli.specs.Coef.{IsCoefText}
+use Rattle.answer_lines.specs.Bench.{IsCalcText, IsPairText, flow_text}
+use Rattle.answer_lines.specs.Coef.{IsCoefText}
 use Rattle.meter_cli.specs.Gen.{IsGenText}
 use Rattle.meter_cli.specs.Puts.{PutsLine}
-use Rattle.meter_cli.specs.Temp.{IsTempText, element_of}
-use Rattle.meter_cli.specs.Water.{IsWaterText}
-use Rattle.meter_cli.specs.declared.job.Query.{Query}
-use Rattle.meter_cli.specs.declared.job.Query.TheVariants.{Temp, Water, Coef, BenchCalc, BenchPair, BenchFlow, Gen}
+use Rattle.answer_lines.specs.Temp.{IsTempText, element_of}
+use Rattle.answer_lines.specs.Water.{IsWaterText}
+use Rattle.command_words.specs.declared.job.Query.{Query}
+use Rattle.command_words.specs.declared.job.Query.TheVariants.{Temp, Water, Coef, BenchCalc, BenchPair, BenchFlow, Gen}
 use Rattle.meter_cli.specs.declared.status.Status.{Status}
 
 -- the line that answers each

@@ -5,8 +5,8 @@ use Rattle.meter_config.specs.declared.fault.ConfigFault.TheVariants as faults
 use Rattle.run_engine.specs.declared.Ended.{Ended}
 use Rattle.run_engine.specs.Dry.{EndsWithoutMemory}
 use Rattle.meter_cli.specs.Status.{status_of}
-use Rattle.meter_cli.specs.declared.job.Job.{Job}
-use Rattle.meter_cli.specs.declared.job.Job.TheVariants.{Init, Run, Dry, Show, Slots, Ask, Cert, ReadMbus, ReadOptical}
+use Rattle.command_words.specs.declared.job.Job.{Job}
+use Rattle.command_words.specs.declared.job.Job.TheVariants.{Init, Run, Dry, Show, Slots, Ask, Cert, ReadMbus, ReadOptical}
 use Rattle.meter_cli.specs.declared.status.Status.{Status}
 use Rattle.meter_cli.specs.declared.status.Status.TheVariants.{Done, Config, Memory, Read, Write, Unformatted, Foreign, Formatted, OutOfMemory, Cut, NotRising, BadReadout}
 

@@ -1,24 +1,14 @@
 -- What `show` leaves.
-use Rattle.std.specs.Prelude.{◌≡◌, ℕ, ◌<◌, List, length, map}
-use Rattle.std.specs.List.{All}
+use Rattle.std.specs.Prelude.{◌≡◌, ℕ, List}
 use Rattle.config_model.specs.Configuration.{Configuration}
 use Rattle.metering_model.specs.Records.{MeterRecord}
 use Rattle.memory_model.specs.Stored.{Side, Holds, stored}
 use Rattle.memory_model.specs.Stored as model
 use Rattle.trace_model.specs.Trace.{Trace}
 use Rattle.show_model.specs.Lines.{AreShowLines}
-use Rattle.arrayvec.specs.ArrayString.{ArrayString}
 use Rattle.meter_cli.specs.Puts.{PutsLines}
 use Rattle.meter_cli.specs.declared.status.Status.{Status}
 use Rattle.meter_cli.specs.declared.status.Status.TheVariants.{Done, Usage, Config, Line, Memory, Read, Write, Unformatted, Foreign, Formatted, OutOfMemory, Cut, NotRising, BadReadout}
-
--- the bytes of texts
-abbrev pub bytes_of : List ArrayString → List (List ℕ)
-bytes_of texts = map (λ (text : ArrayString). text.bytes) texts
-
--- none of these texts is empty
-abbrev pub NoneEmpty : List ArrayString → Type 0
-NoneEmpty texts = All (λ (text : ArrayString). 0 < length text.bytes) texts
 
 -- these lines were put
 pub record ArePut (Are : List (List ℕ) → Type 0) (old new : Trace) (status : Status) : Type 0 where

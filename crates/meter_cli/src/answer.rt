@@ -2,17 +2,15 @@
 ghost use Rattle.std.specs.Prelude.{◌≡◌, ◌<◌, length};
 ghost use Rattle.meter_board.specs.Causes.{Rose};
 ghost use Rattle.meter_cli.specs.Answer.{AnswerLeaves, IsAnswer};
-ghost use Rattle.meter_cli.specs.Command.{IsQuery};
+ghost use Rattle.command_words.specs.Command.{IsQuery};
 ghost use Rattle.meter_cli.specs.Ends.{EndsLine};
 
-use crate::bench::{calc_line, flow_line, pair_line};
 use crate::generated::gen_line;
-use crate::job::Query;
-use crate::line::LINE_ROOM;
-use crate::physics::{coef_line, temp_line, water_line};
 use crate::puts::put_line;
 use crate::status::Status;
+use answer_lines::{LINE_ROOM, calc_line, coef_line, flow_line, pair_line, temp_line, water_line};
 use arrayvec::ArrayString;
+use command_words::Query;
 use meter_board::Board;
 
 /// Puts the line that answers a command.

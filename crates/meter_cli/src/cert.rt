@@ -2,7 +2,7 @@
 ghost use Rattle.std.specs.Prelude.{◌≡◌, ◌≤◌, ◌<◌, length};
 ghost use Rattle.slope_model.specs.Slope.{EnthalpyRises};
 ghost use Rattle.meter_board.specs.Causes.{Rose};
-ghost use Rattle.meter_cli.specs.Command.{IsPressure};
+ghost use Rattle.command_words.specs.Command.{IsPressure};
 ghost use Rattle.meter_cli.specs.Cert.{CertLeaves, slope_text};
 ghost use Rattle.meter_cli.specs.Ends.{EndsCert};
 

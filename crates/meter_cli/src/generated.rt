@@ -8,14 +8,13 @@ ghost use Rattle.billing_memory.specs.Records.{record_view};
 ghost use Rattle.event_script.specs.Views.{IsEvent, event_view};
 ghost use Rattle.meter_config.specs.Views.{settings_of};
 ghost use Rattle.run_engine.specs.Dry.{dry_opening, dry_settings};
-ghost use Rattle.meter_cli.specs.Command.{IsLoad, max_events};
+ghost use Rattle.command_words.specs.Command.{IsLoad, max_events};
 ghost use Rattle.meter_cli.specs.Gen.{IsGenText, StandsForEvents};
 
-use crate::job::Load;
-use crate::line::LINE_ROOM;
-use crate::show_lines::push_register;
+use answer_lines::{LINE_ROOM, push_register};
 use arrayvec::ArrayString;
 use billing_memory::MeterRecord;
+use command_words::Load;
 use event_script::Event;
 use itoa::Buffer;
 use load_gen::Script;

@@ -3,7 +3,7 @@ ghost use Rattle.std.specs.Prelude.{◌≡◌, ◌<◌, length};
 ghost use Rattle.meter_board.specs.Causes.{Rose};
 ghost use Rattle.meter_cli.specs.Ends.{EndsLine};
 ghost use Rattle.meter_cli.specs.Puts.{PutsLine, PutsLines};
-ghost use Rattle.meter_cli.specs.Show.{NoneEmpty, bytes_of};
+ghost use Rattle.answer_lines.specs.Texts.{NoneEmpty, bytes_of};
 
 use crate::status::Status;
 use arrayvec::ArrayString;

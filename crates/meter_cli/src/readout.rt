@@ -9,13 +9,12 @@ ghost use Rattle.readout_reader.specs.Views.{message_view, telegram_view};
 ghost use Rattle.meter_board.specs.Causes.{Rose};
 ghost use Rattle.meter_cli.specs.Ends.{EndsRead, EndsUnread};
 ghost use Rattle.meter_cli.specs.Read.{ReadAnswers, ReadLeaves};
-ghost use Rattle.meter_cli.specs.ReadLines.{AreMessageLines, AreTelegramLines};
+ghost use Rattle.answer_lines.specs.ReadLines.{AreMessageLines, AreTelegramLines};
 
 use crate::init::fill;
-use crate::message_lines::message_lines;
 use crate::puts::put_lines;
-use crate::readout_lines::telegram_lines;
 use crate::status::Status;
+use answer_lines::{message_lines, telegram_lines};
 use meter_board::{Board, Failed, Source};
 use readout_reader::{BadPlace, MbusFields, OpticalFields, read_mbus, read_optical};
 

@@ -5,8 +5,8 @@ ghost use Rattle.meter_cli.specs.Ends.{EndsShow};
 ghost use Rattle.meter_cli.specs.Show.{ShowLeaves};
 
 use crate::puts::put_lines;
-use crate::show_lines::show_lines;
 use crate::status::{Status, unreadable_status};
+use answer_lines::show_lines;
 use meter_board::Board;
 use register_store::recover;
 

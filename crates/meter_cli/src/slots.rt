@@ -4,12 +4,12 @@ ghost use Rattle.std.specs.Fmt.{decimal};
 ghost use Rattle.meter_board.specs.Causes.{Rose};
 ghost use Rattle.register_store.specs.Looks.{gate_view, slot_view};
 ghost use Rattle.meter_cli.specs.Ends.{EndsShow};
-ghost use Rattle.meter_cli.specs.Show.{NoneEmpty, bytes_of};
+ghost use Rattle.answer_lines.specs.Texts.{NoneEmpty, bytes_of};
 ghost use Rattle.meter_cli.specs.Slots.{SlotsLeaves, gate_text, slot_text, slots_lines};
 
-use crate::line::LINE_ROOM;
 use crate::puts::put_lines;
 use crate::status::{Status, unreadable_status};
+use answer_lines::LINE_ROOM;
 use arrayvec::ArrayString;
 use itoa::Buffer;
 use meter_board::Board;

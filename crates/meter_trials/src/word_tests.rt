@@ -1,6 +1,7 @@
 //! The words of the command line.
 use crate::trial::{EMPTY, Trial, ends};
-use meter_cli::{HeatCoefficient, Job, Query, Sample, Status, command};
+use command_words::{HeatCoefficient, Job, Query, Sample, command};
+use meter_cli::Status;
 use meter_parts::{Place, Sensor};
 use std::test::Fail;
 

@@ -1,7 +1,7 @@
 use Rattle.std.proofs.Common.{◌≡◌, ◌≤◌, drop}
 use Rattle.trace_model.specs.Trace.{Trace}
 use Rattle.meter_cli.specs.Puts.{PutsLines}
-use Rattle.meter_cli.specs.Show.{bytes_of}
+use Rattle.answer_lines.specs.Texts.{bytes_of}
 use Rattle.meter_cli.specs.declared.status.Status.{Status}
 use Rattle.meter_cli.proofs.puts.put_lines.Given as goal
 

@@ -2,10 +2,11 @@ use Rattle.std.proofs.Common.{◌≡◌, ◌∙◌, subst, take, Ok}
 use Rattle.reading_model.specs.Telegrams.{telegram_in}
 use Rattle.readout_reader.specs.Views.{telegram_view}
 use Rattle.meter_cli.specs.Puts.{PutsLines}
-use Rattle.meter_cli.specs.ReadLines.{AreTelegramLines}
-use Rattle.meter_cli.specs.Show.{bytes_of}
+use Rattle.answer_lines.specs.ReadLines.{AreTelegramLines}
+use Rattle.answer_lines.specs.Texts.{bytes_of}
 use Rattle.meter_cli.proofs.Lines.{alone_lines, lines_base}
-use Rattle.meter_cli.proofs.Readings.{readable, decides, answered, unread, refused, left_said, left_refused}
+use Rattle.answer_lines.proofs.Readable.{readable}
+use Rattle.meter_cli.proofs.Readings.{decides, answered, unread, refused, left_said, left_refused}
 use Rattle.meter_cli.proofs.readout.mbus.Goals as goal
 
 pub telegram_lines-requires : goal.telegram_lines-requires

@@ -2,9 +2,9 @@ use Rattle.std.proofs.Common.{◌≡◌, ◌∙◌, subst, take, Ok}
 use Rattle.reading_model.specs.Messages.{message_in}
 use Rattle.readout_reader.specs.Views.{message_view}
 use Rattle.meter_cli.specs.Puts.{PutsLines}
-use Rattle.meter_cli.specs.ReadLines.{AreMessageLines}
-use Rattle.meter_cli.specs.Show.{bytes_of}
-use Rattle.meter_cli.proofs.Legible.{legible}
+use Rattle.answer_lines.specs.ReadLines.{AreMessageLines}
+use Rattle.answer_lines.specs.Texts.{bytes_of}
+use Rattle.answer_lines.proofs.Legible.{legible}
 use Rattle.meter_cli.proofs.Lines.{alone_lines, lines_base}
 use Rattle.meter_cli.proofs.Readings.{decides, answered, unread, refused, left_said, left_refused}
 use Rattle.meter_cli.proofs.readout.optical.Goals as goal

@@ -3,7 +3,7 @@ use Rattle.trace_model.specs.Trace.{Trace}
 use Rattle.billing_memory.specs.Records.{record_view}
 use Rattle.meter_config.specs.Views.{config_view}
 use Rattle.meter_cli.specs.Puts.{PutsLines}
-use Rattle.meter_cli.specs.Show.{bytes_of}
+use Rattle.answer_lines.specs.Texts.{bytes_of}
 use Rattle.meter_cli.proofs.Shows.{looks_status}
 use Rattle.meter_cli.proofs.show.show.Goals as goal
 

@@ -2,7 +2,7 @@ use Rattle.std.proofs.Common.{subst, sym}
 use Rattle.trace_model.specs.Trace.{Trace}
 use Rattle.memory_model.specs.Slots.{Look}
 use Rattle.meter_cli.specs.Puts.{PutsLines}
-use Rattle.meter_cli.specs.Show.{bytes_of}
+use Rattle.answer_lines.specs.Texts.{bytes_of}
 use Rattle.meter_cli.specs.Slots.{AreSlotLines}
 use Rattle.meter_cli.proofs.Shows.{looks_status}
 use Rattle.meter_cli.proofs.slots.slots.Goals as goal

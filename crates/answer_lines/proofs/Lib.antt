@@ -1,0 +1,9 @@
+pub mod Benches
+pub mod Decimals
+pub mod Legible
+pub mod MonthLines
+pub mod Readable
+pub mod ReadoutLines
+pub mod Said
+pub mod Temps
+pub mod Waters
