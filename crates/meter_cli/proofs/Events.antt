@@ -19,12 +19,12 @@ use Rattle.run_engine.specs.Dry.{dry_configuration, dry_opening, dry_settings}
 use Rattle.meter_cli.specs.Gen.{KeepsEvents, StandsForEvents, first_events}
 
 -- the record took the first n events, so it has few pulses, and its day is early
-pub record Going (seed n : ℕ) (r : MeterRecord) : Type 0 where
+pub record HasTaken (seed n : ℕ) (r : MeterRecord) : Type 0 where
   pub stands : StandsForEvents seed n r
   pub few : r.register.pulses ≤ 9 * n
   pub early : r.day ≤ 8780 + n / 1000
 
-pub started : (seed : ℕ) → Going seed 0 dry_opening
+pub started : (seed : ℕ) → HasTaken seed 0 dry_opening
 unfolding first_events
 started seed = record {
   stands = record {
@@ -57,7 +57,7 @@ no_fault true b day flow ret n r room fits later = no_date_fault r day room late
 no_fault false true day flow ret n r room fits later = fault_by_kind r (Sample flow ret) room
 no_fault false false day flow ret n r room fits later = no_pulse_fault r n room fits
 
-module _ (seed n : ℕ) (r : MeterRecord) (g : Going seed n r) where
+module _ (seed n : ℕ) (r : MeterRecord) (g : HasTaken seed n r) where
   seq_is : r.seq ≡ n
   seq_is = ap (λ (s : MeterRecord). s.seq) g.stands.stands.is ∙ omega (arith, g.stands.keeps.count)
 
@@ -104,7 +104,7 @@ module _ (seed n : ℕ) (r : MeterRecord) (g : Going seed n r) where
         let now : new.day ≡ day_after r.day (next ∷ []) = ap (λ (s : MeterRecord). s.day) stands_next.is ∙ day_after-joined dry_opening.day g.stands.kept (next ∷ []) ∙ ap (λ d. day_after d (next ∷ [])) (sym (ap (λ (s : MeterRecord). s.day) g.stands.stands.is)) in
         omega (arith, now, first_day, next_day ((n + 1) % 1000 == 0) ((n + 1) % 10 == 1) _ _ _ _ r.day next later refl)
 
-    pub goes_on : Going seed (n + 1) new
+    pub goes_on : HasTaken seed (n + 1) new
     goes_on = record {
       stands = record {
         kept = all;

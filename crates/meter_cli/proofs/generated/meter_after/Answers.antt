@@ -7,13 +7,13 @@ use Rattle.answer_model.specs.Faults.{event_fault}
 use Rattle.billing_memory.specs.Records.{record_view}
 use Rattle.event_script.specs.Views.{event_view}
 use Rattle.meter_config.specs.Views.{settings_of}
-use Rattle.meter_cli.proofs.Events.{Going, started, taken, goes_on}
+use Rattle.meter_cli.proofs.Events.{HasTaken, started, taken, goes_on}
 use Rattle.meter_cli.proofs.generated.meter_after.Goals as goal
 
 pub loop-event-init : goal.loop-event-init
 loop-event-init c = record {
-  going = subst (λ n. Going c.args.seed n (record_view c.standard_meter-meter.result.record)) (sym c.from_number-script.ensures.given)
-      (subst (λ r. Going c.args.seed 0 r) (sym c.standard_meter-meter.ensures.opening) (started c.args.seed));
+  taken = subst (λ n. HasTaken c.args.seed n (record_view c.standard_meter-meter.result.record)) (sym c.from_number-script.ensures.given)
+      (subst (λ r. HasTaken c.args.seed 0 r) (sym c.standard_meter-meter.ensures.opening) (started c.args.seed));
   settings = c.standard_meter-meter.ensures.settings;
   seed = c.from_number-script.ensures.seed;
   count = c.from_number-script.ensures.count;
@@ -27,7 +27,7 @@ take-requires c =
     record {
       event = now.range;
       taken = subst (λ (e : Event). event_fault (record_view c.loop-event.meter.record) e ≡ None) (sym event)
-          (taken c.args.seed before.given (record_view c.loop-event.meter.record) c.loop-event.invariant.going (omega (arith, now.some.0 refl, c.loop-event.invariant.count, c.requires)));
+          (taken c.args.seed before.given (record_view c.loop-event.meter.record) c.loop-event.invariant.taken (omega (arith, now.some.0 refl, c.loop-event.invariant.count, c.requires)));
     }
 
 pub loop-event-preserved : goal.loop-event-preserved
@@ -40,7 +40,7 @@ loop-event-preserved c =
     let takes = subst (λ (s : Settings). TakesEvent s r (event_at c.args.seed (before.given + 1)) new) c.loop-event.invariant.settings
     (subst (λ (e : Event). TakesEvent (settings_of c.loop-event.meter.config) r e new) event c.take.ensures.takes) in
     record {
-      going = subst (λ n. Going c.args.seed n new) (omega (arith, now.given, now.some.0 refl)) (goes_on c.args.seed before.given r c.loop-event.invariant.going new takes);
+      taken = subst (λ n. HasTaken c.args.seed n new) (omega (arith, now.given, now.some.0 refl)) (goes_on c.args.seed before.given r c.loop-event.invariant.taken new takes);
       settings = ap settings_of c.take.ensures.config ∙ c.loop-event.invariant.settings;
       seed = now.seed ∙ c.loop-event.invariant.seed;
       count = now.count ∙ c.loop-event.invariant.count;
