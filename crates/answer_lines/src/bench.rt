@@ -1,5 +1,5 @@
 //! The commands `bench calc`, `bench pair` and `bench flow`.
-ghost use Rattle.std.specs.Prelude.{◌≡◌, ◌⊎◌, ◌+◌, ◌-◌, ◌≤◌, ◌<◌, ◌^◌, ◌++◌, codes, length};
+ghost use Rattle.std.specs.Prelude.{◌≡◌, ◌<◌, ◌++◌, codes, length};
 ghost use Rattle.platinum_model.specs.Pair.{IsCountingPair};
 ghost use Rattle.platinum_model.specs.Sample.{IsCellSpan};
 ghost use Rattle.pt_curve.specs.Curve.{element};
@@ -14,7 +14,6 @@ use command_words::{CalculatorTest, FlowTest, PairTest};
 use heat_coeff::litre_energy;
 use if97_region1::Water;
 use interval_num::Span;
-use itoa::Buffer;
 use pt_curve::Curve;
 use sensor_pair::{Pair, Verdict};
 

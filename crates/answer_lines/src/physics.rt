@@ -1,5 +1,5 @@
 //! The commands on one sample of a sensor, and on water at one pressure and at one or two temperatures.
-ghost use Rattle.std.specs.Prelude.{◌≡◌, ◌⊎◌, ◌*◌, ◌+◌, ◌-◌, ◌^◌, ◌<◌, ◌≤◌, ◌++◌, pos, ◌*ℤ◌, length, codes};
+ghost use Rattle.std.specs.Prelude.{◌≡◌, ◌^◌, ◌<◌, ◌++◌, pos, ◌*ℤ◌, length, codes};
 ghost use Rattle.std.specs.Fmt.{signed_decimal};
 ghost use Rattle.number_model.specs.Rounding.{floor_div, ceil_div};
 ghost use Rattle.pt_curve.specs.Curve.{element};

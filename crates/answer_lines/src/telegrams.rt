@@ -1,12 +1,11 @@
 //! The lines that show what readouts say.
-ghost use Rattle.std.specs.Prelude.{◌≡◌, ◌<◌, ◌≤◌, ◌+◌, ◌^◌, ◌++◌, List, ℕ, pos, codes, length};
-ghost use Rattle.std.specs.Fmt.{decimal};
+ghost use Rattle.std.specs.Prelude.{◌≡◌, ◌<◌, ◌≤◌, ◌+◌, ◌++◌, List, ℕ, codes, length};
 ghost use Rattle.std.specs.List.{All};
 ghost use Rattle.arrayvec.specs.ArrayVec.{array_vec_len};
 ghost use Rattle.readout_reader.specs.Views.{rec_view, recs_view, telegram_view};
 ghost use Rattle.meter_parts.specs.Views.{place_view};
 ghost use Rattle.answer_lines.specs.Texts.{NoneEmpty, bytes_of};
-ghost use Rattle.answer_lines.specs.ReadLines.{AreRecordLines, AreTelegramLines, IsDateLine, IsDated, IsDayNumber, IsLineOf, IsReadable, header_lines, more_lines, place_word, value_line};
+ghost use Rattle.answer_lines.specs.ReadLines.{AreRecordLines, AreTelegramLines, IsDateLine, IsDated, IsDayNumber, IsLineOf, IsReadable, header_lines, place_word, value_line};
 
 use crate::line::{LINE_ROOM, labelled};
 use arrayvec::{ArrayString, ArrayVec};

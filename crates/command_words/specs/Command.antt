@@ -6,7 +6,7 @@ use Rattle.parts_model.specs.Ranges.{max_pressure_kpa, min_pressure_kpa}
 use Rattle.bench_model.specs.Ranges.{IsCalculator, IsFlowSensor, IsSensorPair, last_class, max_energy, max_flow, max_litres, max_volume}
 use Rattle.platinum_model.specs.Element.{max_udeg}
 use Rattle.script_model.specs.Numbers.{number_in}
-use Rattle.script_model.specs.Grammar.{◌>>=◌, word_at, end_at}
+use Rattle.script_model.specs.Grammar.{◌>>=◌, word_at, end_at, max_sample}
 use Rattle.meter_parts.specs.declared.sensor.Sensor.{Sensor}
 use Rattle.meter_parts.specs.declared.sensor.Sensor.TheVariants.{Pt100, Pt500, Pt1000}
 use Rattle.meter_parts.specs.declared.place.Place.{Place}
@@ -31,10 +31,6 @@ is_text text word = pointwise nat_eq word text
 abbrev pub sensor_of : List ℕ → Option Sensor
 sensor_of word = cond (is_text (codes "100") word) (Some Pt100) (cond (is_text (codes "500") word) (Some Pt500) (cond (is_text (codes "1000") word) (Some Pt1000) None))
 
--- the most microohms of a sample
-abbrev pub max_sample : ℕ
-max_sample = 4294967295
-
 -- the least difference of flow and return that counts, in microdegrees
 abbrev pub min_difference : ℕ
 min_difference = 10000
@@ -43,8 +39,8 @@ min_difference = 10000
 abbrev pub max_seed : ℕ
 max_seed = 18446744073709551615
 
-abbrev pub max_events : ℕ
-max_events = 1000000
+abbrev pub max_generated : ℕ
+max_generated = 1000000
 
 -- the number is at least so much below another
 abbrev pub below_in : (least most : ℕ) → List ℕ → Option ℕ
@@ -105,7 +101,7 @@ bench_words (kind ∷ words) = cond (is_text (codes "calc") kind) (calc_words wo
 
 -- `gen SEED COUNT`
 abbrev pub gen_words : List (List ℕ) → Result Job ℕ
-gen_words words = word_at 1 (number_in 0 max_seed) words >>= λ seed. word_at 2 (number_in 1 max_events) seed.1 >>= λ count. end_at 3 (Ask (Gen (record { seed = seed.0; count = count.0 }))) count.1
+gen_words words = word_at 1 (number_in 0 max_seed) words >>= λ seed. word_at 2 (number_in 1 max_generated) seed.1 >>= λ count. end_at 3 (Ask (Gen (record { seed = seed.0; count = count.0 }))) count.1
 
 -- `cert P`
 abbrev pub cert_words : List (List ℕ) → Result Job ℕ
@@ -152,7 +148,7 @@ abbrev pub IsFlowTest : FlowTest → Type 0
 IsFlowTest test = IsFlowSensor test.class test.qp test.q test.reference test.indicated
 
 abbrev pub IsLoad : Load → Type 0
-IsLoad load = load.count ≤ max_events
+IsLoad load = (1 ≤ load.count) × (load.count ≤ max_generated)
 
 -- the numbers of a command are in their ranges
 abbrev pub IsQuery : Query → Type 0

@@ -12,7 +12,7 @@ use event_script::number_word;
 use meter_parts::{MAX_PRESSURE_KPA, MIN_PRESSURE_KPA, Place, Sensor};
 
 /// The most microohms of a sample.
-const MAX_SAMPLE: u64 = 4_294_967_295;
+const MAX_SAMPLE: u64 = u32::MAX as u64;
 
 /// The pressures of water, in kPa.
 const MIN_PRESSURE: u64 = MIN_PRESSURE_KPA as u64;

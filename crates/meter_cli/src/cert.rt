@@ -1,5 +1,5 @@
 //! The command `cert`.
-ghost use Rattle.std.specs.Prelude.{◌≡◌, ◌≤◌, ◌<◌, length};
+ghost use Rattle.std.specs.Prelude.{◌≡◌, ◌<◌, length};
 ghost use Rattle.slope_model.specs.Slope.{EnthalpyRises};
 ghost use Rattle.meter_board.specs.Causes.{Rose};
 ghost use Rattle.command_words.specs.Command.{IsPressure};

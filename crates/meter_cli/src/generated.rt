@@ -8,7 +8,7 @@ ghost use Rattle.billing_memory.specs.Records.{record_view};
 ghost use Rattle.event_script.specs.Views.{IsEvent, event_view};
 ghost use Rattle.meter_config.specs.Views.{settings_of};
 ghost use Rattle.run_engine.specs.Dry.{dry_opening, dry_settings};
-ghost use Rattle.command_words.specs.Command.{IsLoad, max_events};
+ghost use Rattle.command_words.specs.Command.{IsLoad, max_generated};
 ghost use Rattle.meter_cli.specs.Gen.{IsGenText, StandsForEvents};
 
 use answer_lines::{LINE_ROOM, push_register};
@@ -35,7 +35,7 @@ pub fn gen_line(load: Load) -> ArrayString<LINE_ROOM>
 
 // A meter that has taken the first `count` events.
 fn meter_after(seed: u64, count: u32) -> Meter
-    requires { count ≤ max_events }
+    requires { count ≤ max_generated }
     ensures settings { settings_of result.config ≡ dry_settings }
     ensures events { StandsForEvents seed count (record_view result.record) }
 {

@@ -5,74 +5,78 @@ use meter_board::CallKind;
 use meter_cli::Status;
 use std::test::Fail;
 
+// Words, and the line that is put.
+//
 // Calculators: from 60 to 50 °C a litre gives off 41303818.149.. mJ, and the limits of 10 °C are 0.8 %: 100 litres may
 // show 4097338760.41.. to 4163424869.44.. mJ. These were computed apart from this code, with 60 decimals.
 // Pairs: a Pt500 at 54 °C and at 50 °C where 53 and 50 °C are true: the limits of 3 °C are 2.895 and 3.105 °C.
+const LINES: [(&str, &str); 25] = [
+    ("temp 100 138505500", "100000000\n"),
+    ("temp 100 100000000", "out\n"),
+    ("temp 100 100000001", "2\n"),
+    ("temp 100 168478299", "179999997\n"),
+    ("temp 100 168478300", "out\n"),
+    ("temp 500 596985625", "50000000\n"),
+    ("temp 500 596985624", "49999999\n"),
+    ("temp 1000 4294967295", "out\n"),
+    (
+        "bench calc 500 return 1600 3000000 616209500 596985625 100 4130381815",
+        "pass\n",
+    ),
+    (
+        "bench calc 500 return 1600 3000000 616209500 596985625 100 4163390000",
+        "pass\n",
+    ),
+    (
+        "bench calc 500 return 1600 3000000 616209500 596985625 100 4163460000",
+        "high\n",
+    ),
+    (
+        "bench calc 500 return 1600 3000000 616209500 596985625 100 4097370000",
+        "pass\n",
+    ),
+    (
+        "bench calc 500 return 1600 3000000 616209500 596985625 100 4097300000",
+        "low\n",
+    ),
+    (
+        "bench calc 500 return 1600 3000000 597004877 596985625 100 0",
+        "small\n",
+    ),
+    (
+        "bench calc 500 return 1600 3000000 0 596985625 100 0",
+        "out\n",
+    ),
+    (
+        "bench calc 500 return 1600 3000000 616209500 4294967295 100 0",
+        "out\n",
+    ),
+    (
+        "bench pair 500 3000000 53000000 50000000 604682105 596985625",
+        "high\n",
+    ),
+    (
+        "bench pair 500 3000000 54000000 50000000 604682105 596985625",
+        "pass\n",
+    ),
+    (
+        "bench pair 500 3000000 56000000 50000000 604682105 596985625",
+        "low\n",
+    ),
+    (
+        "bench pair 500 3000000 53000000 50000000 500000000 596985625",
+        "out\n",
+    ),
+    ("bench flow 2 1500 15 100000 104000", "pass\n"),
+    ("bench flow 2 1500 15 100000 104001", "high\n"),
+    ("bench flow 2 1500 15 100000 95999", "low\n"),
+    ("bench flow 2 1500 6 100000 105001", "high\n"),
+    ("gen 1 1", "gen 1 1 0 0 0\n"),
+];
+
 #[test]
 fn lines_are_put(rt: HostRuntime) -> Result<(), Fail> {
-    for (words, output) in [
-        ("temp 100 138505500", "100000000\n"),
-        ("temp 100 100000000", "out\n"),
-        ("temp 100 100000001", "2\n"),
-        ("temp 100 168478299", "179999997\n"),
-        ("temp 100 168478300", "out\n"),
-        ("temp 500 596985625", "50000000\n"),
-        ("temp 500 596985624", "49999999\n"),
-        ("temp 1000 4294967295", "out\n"),
-        (
-            "bench calc 500 return 1600 3000000 616209500 596985625 100 4130381815",
-            "pass\n",
-        ),
-        (
-            "bench calc 500 return 1600 3000000 616209500 596985625 100 4163390000",
-            "pass\n",
-        ),
-        (
-            "bench calc 500 return 1600 3000000 616209500 596985625 100 4163460000",
-            "high\n",
-        ),
-        (
-            "bench calc 500 return 1600 3000000 616209500 596985625 100 4097370000",
-            "pass\n",
-        ),
-        (
-            "bench calc 500 return 1600 3000000 616209500 596985625 100 4097300000",
-            "low\n",
-        ),
-        (
-            "bench calc 500 return 1600 3000000 597004877 596985625 100 0",
-            "small\n",
-        ),
-        (
-            "bench calc 500 return 1600 3000000 0 596985625 100 0",
-            "out\n",
-        ),
-        (
-            "bench calc 500 return 1600 3000000 616209500 4294967295 100 0",
-            "out\n",
-        ),
-        (
-            "bench pair 500 3000000 53000000 50000000 604682105 596985625",
-            "high\n",
-        ),
-        (
-            "bench pair 500 3000000 54000000 50000000 604682105 596985625",
-            "pass\n",
-        ),
-        (
-            "bench pair 500 3000000 56000000 50000000 604682105 596985625",
-            "low\n",
-        ),
-        (
-            "bench pair 500 3000000 53000000 50000000 500000000 596985625",
-            "out\n",
-        ),
-        ("bench flow 2 1500 15 100000 104000", "pass\n"),
-        ("bench flow 2 1500 15 100000 104001", "high\n"),
-        ("bench flow 2 1500 15 100000 95999", "low\n"),
-        ("bench flow 2 1500 6 100000 105001", "high\n"),
-        ("gen 1 1", "gen 1 1 0 0 0\n"),
-    ] {
+    for (words, output) in LINES {
         is_done(&rt, &Trial::new(words, &EMPTY, b""), output)?;
     }
     Ok(())

@@ -191,72 +191,74 @@ fn lines_are_refused(rt: HostRuntime) -> Result<(), Fail> {
 
 // What `run` puts for a script over a standard meter, where it is done. The messages were computed apart from the
 // program.
+const SCRIPTS: [(&str, &str); 15] = [
+    // The optical head is read.
+    (
+        "pulse 3\nopt 2F3F210D0A\nopt 063035300D0A\n",
+        "ok 1 30 0 0\nopt 1 2f41424335484541540d0a\nopt 1 02392e3231283132333435363738290d0a362e382830303030303030302a6b5768290d0a362e3236283030303030302e30332a6d33290d0a392e333628323032342d30312d3135290d0a210d0a0331\n",
+    ),
+    // Another kind of data, a request without its `!`, and an option select that nobody asked for before.
+    (
+        "opt 2f3f210d0a\nopt 063035310D0A\nopt 2F3F31323334353637380D0A\nopt 063035300D0A\n",
+        "opt 0 2f41424335484541540d0a\nopt 0 -\nopt 0 -\nopt 0 -\n",
+    ),
+    // A reset, and one with a wrong checksum.
+    (
+        "mbus 1040014116\nmbus 1040014216\n",
+        "mbus 0 e5\nmbus 0 -\n",
+    ),
+    // A repeated request has the same telegram.
+    (
+        "pulse 3\nmbus 107B017C16\nmbus 107B017C16\n",
+        "ok 1 30 0 0\nmbus 1 681f1f680801727856341243040104000000000c06000000000c1403000000026c0f31be16\nmbus 1 681f1f680801727856341243040104000000000c06000000000c1403000000026c0f31be16\n",
+    ),
+    // An event whose slot is torn is lost.
+    (
+        "cut 1 7 5A\npulse 3\npulse 3\n",
+        "armed\npower 0 0 0 0\nok 1 30 0 0\n",
+    ),
+    // The gate decides what is kept.
+    ("cut 3 0 FF\npulse 3\n", "armed\npower 1 30 0 0\n"),
+    ("cut 3 0 00\npulse 3\n", "armed\npower 0 0 0 0\n"),
+    ("cut 4 1 00\npulse 3\n", "armed\npower 1 30 0 0\n"),
+    ("cut 4 0 00\npulse 3\n", "armed\npower 0 0 0 0\n"),
+    // What was answered outlives the power.
+    (
+        "pulse 3\npower\npulse 3\n",
+        "ok 1 30 0 0\npower 1 30 0 0\nok 2 60 0 0\n",
+    ),
+    // A cut waits over a power failure.
+    (
+        "cut 1 0 00\npower\npulse 3\n",
+        "armed\npower 0 0 0 0\npower 0 0 0 0\n",
+    ),
+    // A run goes on over two cuts.
+    (
+        "cut 2 0 00\npulse 3\ncut 4 1 00\npulse 3\npulse 3\n",
+        "armed\npower 0 0 0 0\narmed\npower 1 30 0 0\nok 2 60 0 0\n",
+    ),
+    // A later cut takes the place of one that waits.
+    (
+        "cut 1 0 00\ncut 8 1 00\npulse 3\npulse 3\npulse 3\n",
+        "armed\narmed\nok 1 30 0 0\npower 2 60 0 0\nok 3 90 0 0\n",
+    ),
+    // The optical head forgets.
+    (
+        "opt 2F3F210D0A\npower\nopt 063035300D0A\n",
+        "opt 0 2f41424335484541540d0a\npower 0 0 0 0\nopt 0 -\n",
+    ),
+    // So does the slave: the request with the other control field begins a reading, with the access number 0, as
+    // the first did.
+    (
+        "pulse 3\nmbus 107B017C16\npower\nmbus 105B015C16\n",
+        "ok 1 30 0 0\nmbus 1 681f1f680801727856341243040104000000000c06000000000c1403000000026c0f31be16\npower 1 30 0 0\nmbus 1 681f1f680801727856341243040104000000000c06000000000c1403000000026c0f31be16\n",
+    ),
+];
+
 #[test]
 fn scripts_have_their_answers(rt: HostRuntime) -> Result<(), Fail> {
     let memory = standard_meter(&rt)?;
-    for (script, output) in [
-        // The optical head is read.
-        (
-            "pulse 3\nopt 2F3F210D0A\nopt 063035300D0A\n",
-            "ok 1 30 0 0\nopt 1 2f41424335484541540d0a\nopt 1 02392e3231283132333435363738290d0a362e382830303030303030302a6b5768290d0a362e3236283030303030302e30332a6d33290d0a392e333628323032342d30312d3135290d0a210d0a0331\n",
-        ),
-        // Another kind of data, a request without its `!`, and an option select that nobody asked for before.
-        (
-            "opt 2f3f210d0a\nopt 063035310D0A\nopt 2F3F31323334353637380D0A\nopt 063035300D0A\n",
-            "opt 0 2f41424335484541540d0a\nopt 0 -\nopt 0 -\nopt 0 -\n",
-        ),
-        // A reset, and one with a wrong checksum.
-        (
-            "mbus 1040014116\nmbus 1040014216\n",
-            "mbus 0 e5\nmbus 0 -\n",
-        ),
-        // A repeated request has the same telegram.
-        (
-            "pulse 3\nmbus 107B017C16\nmbus 107B017C16\n",
-            "ok 1 30 0 0\nmbus 1 681f1f680801727856341243040104000000000c06000000000c1403000000026c0f31be16\nmbus 1 681f1f680801727856341243040104000000000c06000000000c1403000000026c0f31be16\n",
-        ),
-        // An event whose slot is torn is lost.
-        (
-            "cut 1 7 5A\npulse 3\npulse 3\n",
-            "armed\npower 0 0 0 0\nok 1 30 0 0\n",
-        ),
-        // The gate decides what is kept.
-        ("cut 3 0 FF\npulse 3\n", "armed\npower 1 30 0 0\n"),
-        ("cut 3 0 00\npulse 3\n", "armed\npower 0 0 0 0\n"),
-        ("cut 4 1 00\npulse 3\n", "armed\npower 1 30 0 0\n"),
-        ("cut 4 0 00\npulse 3\n", "armed\npower 0 0 0 0\n"),
-        // What was answered outlives the power.
-        (
-            "pulse 3\npower\npulse 3\n",
-            "ok 1 30 0 0\npower 1 30 0 0\nok 2 60 0 0\n",
-        ),
-        // A cut waits over a power failure.
-        (
-            "cut 1 0 00\npower\npulse 3\n",
-            "armed\npower 0 0 0 0\npower 0 0 0 0\n",
-        ),
-        // A run goes on over two cuts.
-        (
-            "cut 2 0 00\npulse 3\ncut 4 1 00\npulse 3\npulse 3\n",
-            "armed\npower 0 0 0 0\narmed\npower 1 30 0 0\nok 2 60 0 0\n",
-        ),
-        // A later cut takes the place of one that waits.
-        (
-            "cut 1 0 00\ncut 8 1 00\npulse 3\npulse 3\npulse 3\n",
-            "armed\narmed\nok 1 30 0 0\npower 2 60 0 0\nok 3 90 0 0\n",
-        ),
-        // The optical head forgets.
-        (
-            "opt 2F3F210D0A\npower\nopt 063035300D0A\n",
-            "opt 0 2f41424335484541540d0a\npower 0 0 0 0\nopt 0 -\n",
-        ),
-        // So does the slave: the request with the other control field begins a reading, with the access number 0, as
-        // the first did.
-        (
-            "pulse 3\nmbus 107B017C16\npower\nmbus 105B015C16\n",
-            "ok 1 30 0 0\nmbus 1 681f1f680801727856341243040104000000000c06000000000c1403000000026c0f31be16\npower 1 30 0 0\nmbus 1 681f1f680801727856341243040104000000000c06000000000c1403000000026c0f31be16\n",
-        ),
-    ] {
+    for (script, output) in SCRIPTS {
         is_done(&rt, &Trial::new("run", &memory, script.as_bytes()), output)?;
     }
     Ok(())
